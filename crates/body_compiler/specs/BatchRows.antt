@@ -8,7 +8,7 @@ use Rattle.wasm_defs.specs.Typing.{function_type}
 use Rattle.wasm_defs.specs.Instances.{first_minimum}
 use Rattle.index_spaces.specs.Spaces.{Spaces, context_in}
 use Rattle.rv_isa.specs.declared.compiled.Code.{Code}
-use Rattle.body_cutter.specs.declared.body.Body.{Body}
+use Rattle.body_cutter.specs.Bodies.{Body}
 use Rattle.body_compiler.specs.declared.code.BodyStop.{BodyStop}
 use Rattle.body_compiler.specs.declared.code.BodyStop.TheVariants.{Refused}
 use Rattle.result_cells.specs.Rooms.{Store, Reserved, Short}

@@ -2,7 +2,7 @@
 
 ghost use Rattle.std.specs.Prelude.{◌≤◌};
 
-use body_cutter::Body;
+use body_cutter::BodyView;
 use index_spaces::Context;
 use wasm_defs::FuncType;
 
@@ -21,8 +21,8 @@ fn most_values(types: &[FuncType]) -> u64
 
 /// Whether a body is so long that its code may have more instruction words than so many: a byte of it has at most 80 of them, and six
 /// more for each value that a branch takes along. It tells only whether they are worth counting (`measure`) before they are made.
-pub fn may_be_longer(context: &Context, body: &Body, words: u64) -> bool {
-    let bytes = body.bytes.as_slice().len() as u64;
+pub fn may_be_longer(context: &Context, body: BodyView<'_>, words: u64) -> bool {
+    let bytes = body.bytes.len() as u64;
     if bytes <= words / 6080 {
         return false;
     }

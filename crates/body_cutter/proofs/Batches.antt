@@ -1,109 +1,119 @@
--- How the batches of a list of bodies are counted, and the first one taken.
-use Rattle.std.proofs.Common.{◌≡◌, ℕ, zero, suc, ◌+◌, ◌-◌, ◌<◌, ◌≤◌, inl, inr, true, false, leb, List, [], ◌∷◌, ◌++◌, length, take, drop, refl, sym, ap, subst, ◌∙◌, arith, append_assoc, length-append}
-use Rattle.std.proofs.lemmas.Bool.{cases_Bool, leb-false, lt-leb}
-use Rattle.std.proofs.lemmas.List.{take_all, take-append-le, drop-append-le, take-append-drop, append-nil, drop-take}
-use Rattle.body_cutter.specs.declared.body.Body.{Body}
-use Rattle.body_cutter.specs.Queues.{Queue, bytes_of, with_begun, with_body, with_bodies, batch_length, without_first, Counts, with_count, counted}
+-- Batches that are lists of their own: when they close, and the first one taken.
+use Rattle.std.proofs.Common.{◌≡◌, ℕ, suc, ◌-◌, ◌<◌, ◌≤◌, inl, inr, true, false, leb, List, [], ◌∷◌, ◌++◌, length, All, Option, None, Some, refl, sym, ap, subst, ◌∙◌, arith, append_assoc, length-append}
+use Rattle.std.specs.Prelude.{IfSome, IfNone}
+use Rattle.std.proofs.lemmas.Bool.{le-leb, lt-leb}
+use Rattle.std.proofs.lemmas.List.{append-nil}
+use Rattle.std.proofs.lemmas.List.Elements.{All-head, All-tail}
+use Rattle.body_cutter.specs.Bodies.{Body, Block, bytes_of, all_bytes, bytes_in, body_at}
+use Rattle.body_cutter.specs.Queues.{Queue, with_begun, batch_length, starts_at, joined, IsFull, IsLast, AreFew}
+use Rattle.body_cutter.specs.declared.queue.Waiting.{Waiting}
+use Rattle.body_cutter.specs.Held.{last_of, IsLastIf}
 
-bytes_append : (xs : List Body) (b : Body) → bytes_of (xs ++ b ∷ []) ≡ bytes_of xs + length b.bytes
-bytes_append [] b = omega arith
-bytes_append (x ∷ xs) b = omega (arith, bytes_append xs b)
+-- ---- how many bodies the first batch has
 
-drop_all : {A : Type 0} (n : ℕ) (xs : List A) → length xs ≤ n → drop n xs ≡ []
-drop_all zero [] h = refl
-drop_all (suc n) [] h = refl
-drop_all zero (x ∷ xs) h = absurd (omega arith)
-drop_all (suc n) (x ∷ xs) h = drop_all n xs (omega arith)
+few_bytes : (least : ℕ) (x : Body) (bodies : List Body) → AreFew least (x ∷ bodies) → bytes_of (x ∷ bodies) < least
+few_bytes least x bodies (inl e) = absurd (omega (arith, ap length e))
+few_bytes least x bodies (inr lt) = lt
 
--- the first bodies are those of closed batches
-abbrev pub queue_at : ℕ → ℕ → List Body → ℕ → Queue
-queue_at least number xs settled = record { least = least; number = number; closed = take settled xs; begun = drop settled xs }
+-- up to the body with which there are enough bytes
+full_length : (least : ℕ) (before : List Body) (body : Body) → AreFew least before → least ≤ bytes_of (before ++ body ∷ []) → (bodies : List Body)
+    → batch_length least ((before ++ body ∷ []) ++ bodies) ≡ length (before ++ body ∷ [])
+full_length least [] body few enough bodies = let e : leb least (length body.bytes) ≡ true = le-leb least (length body.bytes) (omega (arith, enough)) in rw e refl
+full_length least (x ∷ before) body few enough bodies =
+    let lt = few_bytes least x before few in
+    let e : leb least (length x.bytes) ≡ false = lt-leb least (length x.bytes) (omega (arith, lt)) in
+    rw e (ap suc (full_length (least - length x.bytes) before body (inr (omega (arith, lt))) (omega (arith, enough)) bodies))
 
-abbrev queue_of : ℕ → ℕ → List Body → List Body → Queue
-queue_of least number closed begun = record { least = least; number = number; closed = closed; begun = begun }
+pub is_full : (least : ℕ) (before : List Body) (body : Body) → AreFew least before → least ≤ bytes_of (before ++ body ∷ []) → IsFull least (before ++ body ∷ [])
+is_full least before body few enough = record { some = omega (arith, length-append before (body ∷ [])); first = full_length least before body few enough }
 
-same_queue : (least number : ℕ) (c d b e : List Body) → c ≡ d → b ≡ e → queue_of least number c b ≡ queue_of least number d e
-same_queue least number c d b e p q = rw (p, q) refl
+few_length : (least : ℕ) (bodies : List Body) → AreFew least bodies → batch_length least bodies ≡ length bodies
+few_length least [] few = refl
+few_length least (x ∷ bodies) few =
+    let lt = few_bytes least x bodies few in
+    let e : leb least (length x.bytes) ≡ false = lt-leb least (length x.bytes) (omega (arith, lt)) in
+    rw e (ap suc (few_length (least - length x.bytes) bodies (inr (omega (arith, lt)))))
 
-pub record AreCounted (least number : ℕ) (q : Queue) (xs : List Body) (k : Counts) : Type 0 where
-  pub view : q ≡ queue_at least number xs k.settled
-  pub settled : k.settled ≤ length xs
-  pub bytes : k.bytes ≡ bytes_of (drop k.settled xs)
-  pub few : k.bytes ≤ least
-  pub all : k.all ≡ length xs
+-- the batch that is begun closes
+pub is_last : (least : ℕ) (last : Option (List Body)) (bodies : List Body) → last_of last ≡ bodies → (bodies ≡ [] → last ≡ None) → AreFew least bodies → IsLastIf least last
+is_last least None bodies e none few = tt
+is_last least (Some []) bodies e none few = absurd (let k : Some [] ≡ None = none (sym e) in cc)
+is_last least (Some (x ∷ xs)) bodies e none few = record { some = omega arith; first = few_length least (x ∷ xs) (subst (AreFew least) (sym e) few) }
 
-module _ (least number : ℕ) where
-  one : (q : Queue) (xs : List Body) (k : Counts) (b : Body) → AreCounted least number q xs k → AreCounted least number (with_body q b) (xs ++ b ∷ []) (with_count least (k.all + 1) k.settled (k.bytes + length b.bytes))
-  one q xs k b h =
-      let long : length (xs ++ b ∷ []) ≡ k.all + 1 = omega (arith, length-append xs (b ∷ []), h.all) in
-      let sum : bytes_of (drop k.settled xs ++ b ∷ []) ≡ k.bytes + length b.bytes = omega (arith, bytes_append (drop k.settled xs) b, h.bytes) in
-      let kept : take k.settled (xs ++ b ∷ []) ≡ take k.settled xs = take-append-le k.settled xs (b ∷ []) h.settled in
-      let left : drop k.settled (xs ++ b ∷ []) ≡ drop k.settled xs ++ b ∷ [] = drop-append-le k.settled xs (b ∷ []) h.settled in
-      let all : take (k.all + 1) (xs ++ b ∷ []) ≡ xs ++ b ∷ [] = take_all (k.all + 1) (xs ++ b ∷ []) (omega (arith, long)) in
-      let none : drop (k.all + 1) (xs ++ b ∷ []) ≡ [] = drop_all (k.all + 1) (xs ++ b ∷ []) (omega (arith, long)) in
-      let joined : take k.settled xs ++ (drop k.settled xs ++ b ∷ []) ≡ xs ++ b ∷ [] = sym (append_assoc (take k.settled xs) (drop k.settled xs) (b ∷ [])) ∙ ap (λ (l : List Body). l ++ b ∷ []) (take-append-drop k.settled xs) in
-      let start : with_body q b ≡ with_begun (queue_at least number xs k.settled) (drop k.settled xs ++ b ∷ []) = ap (λ (p : Queue). with_body p b) h.view in
-      elim (cases_Bool (leb least (k.bytes + length b.bytes))) [
-        | inl reached ↦
-            let full : leb least (bytes_of (drop k.settled xs ++ b ∷ [])) ≡ true = ap (leb least) sum ∙ reached in
-            let step : with_begun (queue_at least number xs k.settled) (drop k.settled xs ++ b ∷ []) ≡ queue_of least number (take k.settled xs ++ (drop k.settled xs ++ b ∷ [])) [] = rw full refl in
-            rw reached (record {
-              view = start ∙ step ∙ same_queue least number _ _ _ _ (joined ∙ sym all) (sym none);
-              settled = omega (arith, long);
-              bytes = ap bytes_of (sym none);
-              few = omega arith;
-              all = sym long;
-            })
-        | inr short ↦
-            let open_yet : leb least (bytes_of (drop k.settled xs ++ b ∷ [])) ≡ false = ap (leb least) sum ∙ short in
-            let step : with_begun (queue_at least number xs k.settled) (drop k.settled xs ++ b ∷ []) ≡ queue_of least number (take k.settled xs) (drop k.settled xs ++ b ∷ []) = rw open_yet refl in
-            rw short (record {
-              view = start ∙ step ∙ same_queue least number _ _ _ _ (sym kept) (sym left);
-              settled = omega (arith, long, h.settled, h.all);
-              bytes = sym (ap bytes_of left ∙ sum);
-              few = omega (arith, leb-false least (k.bytes + length b.bytes) short);
-              all = sym long;
-            })
-      ]
+-- ---- batches, joined
 
-  pub many : (fresh : List Body) (q : Queue) (xs : List Body) (k : Counts) → AreCounted least number q xs k → AreCounted least number (with_bodies q fresh) (xs ++ fresh) (counted least k fresh)
-  many [] q xs k h = subst (λ (l : List Body). AreCounted least number q l k) (sym (append-nil xs)) h
-  many (b ∷ fresh) q xs k h =
-      subst (λ (l : List Body). AreCounted least number (with_bodies (with_body q b) fresh) l (counted least (with_count least (k.all + 1) k.settled (k.bytes + length b.bytes)) fresh))
-      (append_assoc xs (b ∷ []) fresh)
-      (many fresh (with_body q b) (xs ++ b ∷ []) (with_count least (k.all + 1) k.settled (k.bytes + length b.bytes)) (one q xs k b h))
+pub joined_append : (xs ys : List (List Body)) → joined (xs ++ ys) ≡ joined xs ++ joined ys
+joined_append [] ys = refl
+joined_append (x ∷ xs) ys = ap (λ (l : List Body). x ++ l) (joined_append xs ys) ∙ sym (append_assoc x (joined xs) (joined ys))
+
+pub joined_push : (xs : List (List Body)) (x : List Body) → joined (xs ++ x ∷ []) ≡ joined xs ++ x
+joined_push xs x = joined_append xs (x ∷ []) ∙ ap (λ (l : List Body). joined xs ++ l) (append-nil x)
+
+pub all_bytes_push : (xs : List Body) (b : Body) → all_bytes (xs ++ b ∷ []) ≡ all_bytes xs ++ b.bytes
+all_bytes_push [] b = append-nil b.bytes
+all_bytes_push (x ∷ xs) b = ap (λ (l : List ℕ). x.bytes ++ l) (all_bytes_push xs b) ∙ sym (append_assoc x.bytes (all_bytes xs) b.bytes)
+
+length_all_bytes : (xs : List Body) → length (all_bytes xs) ≡ bytes_of xs
+length_all_bytes [] = refl
+length_all_bytes (x ∷ xs) = omega (arith, length-append x.bytes (all_bytes xs), length_all_bytes xs)
+
+-- where no body is in hand, all bytes are those of complete bodies
+pub complete_bytes : (b : Block) → b.rest ≡ [] → length (bytes_in b) ≡ bytes_of b.bodies
+complete_bytes b e = omega (arith, length-append (all_bytes b.bodies) b.rest, ap length e, length_all_bytes b.bodies)
+
+-- the batch that is begun has enough bytes, or too few
+pub closes_full : (q : Queue) (bodies : List Body) → q.least ≤ bytes_of bodies → with_begun q bodies ≡ record { least = q.least; number = q.number; closed = q.closed ++ bodies; begun = [] }
+closes_full q bodies le = let e : leb q.least (bytes_of bodies) ≡ true = le-leb q.least (bytes_of bodies) le in rw e refl
+
+pub stays_begun : (q : Queue) (bodies : List Body) → bytes_of bodies < q.least → with_begun q bodies ≡ record { least = q.least; number = q.number; closed = q.closed; begun = bodies }
+stays_begun q bodies lt = let e : leb q.least (bytes_of bodies) ≡ false = lt-leb q.least (bytes_of bodies) lt in rw e refl
 
 -- ---- the first batch
 
-pub counts_on : (settled count owed total : ℕ) (b : Body) (bodies : List Body) → count < settled → length b.bytes < owed → count + batch_length owed (take (settled - count) (b ∷ bodies)) ≡ total
-    → count + 1 + batch_length (owed - length b.bytes) (take (settled - (count + 1)) bodies) ≡ total
-counts_on settled count owed total b bodies lt more e =
-    let n : settled - count ≡ suc (settled - (count + 1)) = omega arith in
-    let f : leb owed (length b.bytes) ≡ false = lt-leb owed (length b.bytes) more in
-    let t : count + suc (batch_length (owed - length b.bytes) (take (settled - (count + 1)) bodies)) ≡ total = rw f at (rw n at e) in
-    omega (arith, t)
+pub first_starts : (batch rest : List Body) → 0 < length batch → starts_at (body_at batch 0).size (batch ++ rest)
+first_starts [] rest some = absurd (omega (arith, some))
+first_starts (b ∷ batch) rest some = refl
 
-take_shorter : {A : Type 0} (n m : ℕ) (xs : List A) → n ≤ m → take n (take m xs) ≡ take n xs
-take_shorter zero m xs le = refl
-take_shorter (suc n) zero xs le = absurd (omega arith)
-take_shorter (suc n) (suc m) [] le = refl
-take_shorter (suc n) (suc m) (x ∷ xs) le = ap (λ (l : List _). x ∷ l) (take_shorter n m xs (omega arith))
+abbrev waiting_of : ℕ → List (List Body) → Option (List Body) → Waiting
+waiting_of number closed last = record { number = number; closed = closed; last = last }
 
-drop_more : {A : Type 0} (n m : ℕ) (xs : List A) → drop m (drop n xs) ≡ drop (n + m) xs
-drop_more zero m xs = let e : 0 + m ≡ m = omega arith in rw e refl
-drop_more (suc n) m [] = drop_all m [] (omega arith) ∙ sym (drop_all (suc n + m) [] (omega arith))
-drop_more (suc n) m (x ∷ xs) = let e : suc n + m ≡ suc (n + m) = omega arith in rw e (drop_more n m xs)
+-- it is the first of the closed ones
+pub popped : (closed rest : List (List Body)) (batch last : List Body) → closed ≡ batch ∷ rest → joined closed ++ last ≡ batch ++ (joined rest ++ last)
+popped closed rest batch last e = ap (λ (l : List (List Body)). joined l ++ last) e ∙ append_assoc batch (joined rest) last
 
-pub first_taken : (least settled count : ℕ) (bodies : List Body) → count ≡ batch_length least (take settled bodies) → count ≤ settled → take count bodies ≡ take (batch_length least (take settled bodies)) (take settled bodies)
-first_taken least settled count bodies e le = sym (take_shorter count settled bodies le) ∙ ap (λ (k : ℕ). take k (take settled bodies)) e
+pub popped_length : (least : ℕ) (closed rest : List (List Body)) (batch last : List Body) → closed ≡ batch ∷ rest → All (IsFull least) closed
+    → (0 < length batch) × (batch_length least (joined closed ++ last) ≡ length batch)
+popped_length least closed rest batch last e full =
+    let first : IsFull least batch = All-head (IsFull least) batch rest (subst (All (IsFull least)) e full) in
+    (first.some, ap (batch_length least) (popped closed rest batch last e) ∙ first.first (joined rest ++ last))
 
-pub others_left : (least number settled count : ℕ) (bodies : List Body) → count ≡ batch_length least (take settled bodies) → count ≤ settled
-    → queue_at least (number + 1) (drop count bodies) (settled - count) ≡ without_first (queue_at least number bodies settled)
-others_left least number settled count bodies e le =
-    let n : count + (settled - count) ≡ settled = omega arith in
-    let next : number + 1 ≡ suc number = omega arith in
-    let closed : take (settled - count) (drop count bodies) ≡ drop (batch_length least (take settled bodies)) (take settled bodies) =
-    sym (drop-take count (settled - count) bodies) ∙ ap (λ (k : ℕ). drop count (take k bodies)) n ∙ ap (λ (k : ℕ). drop k (take settled bodies)) e in
-    let begun : drop (settled - count) (drop count bodies) ≡ drop settled bodies = drop_more count (settled - count) bodies ∙ ap (λ (k : ℕ). drop k bodies) n in
-    ap (λ (k : ℕ). queue_of least k (take (settled - count) (drop count bodies)) (drop (settled - count) (drop count bodies))) next
-    ∙ same_queue least (suc number) _ _ _ _ closed begun
+pub popped_others : (least : ℕ) (closed rest : List (List Body)) (batch : List Body) → closed ≡ batch ∷ rest → All (IsFull least) closed → All (IsFull least) rest
+popped_others least closed rest batch e full = All-tail (IsFull least) batch rest (subst (All (IsFull least)) e full)
+
+-- it is the last one
+module _ (closed left : List (List Body)) (last new : Option (List Body)) (none : closed ≡ []) (still : left ≡ []) (taken : new ≡ None) where
+  pub last_popped : (batch : Option (List Body)) → batch ≡ last → IfSome batch (λ b. joined closed ++ last_of last ≡ b ++ (joined left ++ last_of new))
+  last_popped None e = tt
+  last_popped (Some b) e =
+      ap (λ (l : List (List Body)). joined l ++ last_of last) none
+      ∙ ap last_of (sym e)
+      ∙ sym (append-nil b)
+      ∙ ap (λ (l : List (List Body)). b ++ (joined l ++ [])) (sym still)
+      ∙ ap (λ (o : Option (List Body)). b ++ (joined left ++ last_of o)) (sym taken)
+
+  pub last_length : (least : ℕ) (batch : Option (List Body)) → batch ≡ last → IsLastIf least last → IfSome batch (λ b. (0 < length b) × (batch_length least (joined closed ++ last_of last) ≡ length b))
+  last_length least None e h = tt
+  last_length least (Some b) e h =
+      let is : IsLast least b = subst (IsLastIf least) (sym e) h in
+      (is.some, ap (λ (l : List (List Body)). batch_length least (joined l ++ last_of last)) none ∙ ap (λ (o : Option (List Body)). batch_length least (last_of o)) (sym e) ∙ is.first)
+
+  pub last_gone : (least : ℕ) → All (IsFull least) closed → All (IsFull least) left × IsLastIf least new
+  last_gone least full = (subst (All (IsFull least)) (none ∙ sym still) full, subst (IsLastIf least) (sym taken) tt)
+
+  pub none_popped : (number : ℕ) (batch : Option (List Body)) → batch ≡ last
+      → IfNone batch ((joined closed ++ last_of last ≡ []) × (waiting_of number left new ≡ waiting_of number closed last))
+  none_popped number (Some b) e = tt
+  none_popped number None e = (
+    ap (λ (l : List (List Body)). joined l ++ last_of last) none ∙ ap last_of (sym e),
+    ap (λ (l : List (List Body)). waiting_of number l new) (still ∙ sym none) ∙ ap (waiting_of number closed) (taken ∙ e),
+  )

@@ -1,20 +1,21 @@
 -- What a cutter hands over, by where its walk is.
-use Rattle.std.proofs.Common.{◌≡◌, ℕ, suc, ◌+◌, ◌-◌, ◌<◌, inl, inr, Bool, true, false, leb, eqb, ◌||◌, ◌&&◌, List, [], ◌∷◌, ◌++◌, length, Option, Some, None, refl, sym, ap, subst, ◌∙◌, arith, length-append, eq-eqb}
+use Rattle.std.proofs.Common.{◌≡◌, ℕ, suc, ◌-◌, ◌<◌, inl, inr, Bool, true, false, leb, eqb, ◌||◌, ◌&&◌, List, [], ◌∷◌, ◌++◌, length, Option, Some, None, refl, sym, ap, subst, ◌∙◌, arith, append_assoc, eq-eqb}
 use Rattle.std.specs.Prelude.{is_some, not}
 use Rattle.std.proofs.lemmas.Bool.{cases_Bool, cases_lt, ne_eqb, eqb-true, and_parts}
 use Rattle.std.proofs.lemmas.List.{append-nil}
 use Rattle.wasm_defs.specs.declared.fault.Refusal.{Refusal}
 use Rattle.wasm_defs.specs.Numbers.{IsCutOff}
-use Rattle.body_cutter.specs.declared.body.Body.{Body}
+use Rattle.body_cutter.specs.Bodies.{Body, Block, bytes_of, no_bodies}
 use Rattle.body_cutter.specs.declared.walk.Walk.{Walk}
-use Rattle.body_cutter.specs.Sections.{Given, End, Whole, Faulty, Owed, ends, after_bodies, bodies_from}
+use Rattle.body_cutter.specs.declared.queue.Waiting.{Waiting}
+use Rattle.body_cutter.specs.Sections.{Given, End, Whole, Faulty, Owed, ends, bodies_from}
 use Rattle.body_cutter.specs.Places.{still, unless_refused, on_hand}
-use Rattle.body_cutter.specs.Walks.{given, position_of, index_of, is_over, IsSound, IsAtSize, IsInBody, IsInHand, UnlessRefused}
-use Rattle.body_cutter.specs.Queues.{Queue, with_begun, with_body, with_bodies, all_closed, bytes_of}
-use Rattle.body_cutter.specs.Cuttings.{Handed, handed, finished}
-use Rattle.body_cutter.specs.Held.{end_of, end_by}
+use Rattle.body_cutter.specs.Walks.{Batched, given, batches_of, after_batches, position_of, index_of, is_over, IsSound, IsAtSize, IsInBody, IsInHand, UnlessRefused}
+use Rattle.body_cutter.specs.Queues.{Queue, with_begun, with_body, with_bodies, all_closed, joined}
+use Rattle.body_cutter.specs.Cuttings.{Handed, handed, finished, no_batch}
+use Rattle.body_cutter.specs.Held.{end_of, end_by, last_of, waiting, queue_of}
 use Rattle.body_cutter.proofs.Sizes.{from_there, size_owed, body_owed, nothing_left, whole_section, cut_read}
-use Rattle.body_cutter.proofs.Fills.{none_given}
+use Rattle.body_cutter.proofs.Batches.{joined_append}
 
 -- ---- by the bytes that came
 
@@ -75,7 +76,7 @@ module _ (w : Walk) (sound : IsSound w) where
       let h : IsInBody w = hand None true e f in
       ap (λ (o : Option Refusal). unless_refused o (on_hand (position_of w) w.sized [])) e
       ∙ ap (λ (z : Bool). on_hand (position_of w) z []) f
-      ∙ body_owed w.size_at w.len (w.at - length w.bytes.items) w.end w.bytes.items _ h.short (omega (arith, h.came, h.room))
+      ∙ body_owed w.size_at w.len (w.at - length w.block.rest) w.end w.block.rest _ h.short (omega (arith, h.came, h.room))
       ∙ ap (λ (b : Bool). ends (end_of None b)) (sym (some_owed h.one))
       ∙ sym (ap (λ (o : Option Refusal). ends (end_of o (eqb w.count 0 && eqb w.at w.end))) e)
 
@@ -142,53 +143,120 @@ tells_fault None false r e = absurd cc
 pub closed_twice : (q : Queue) → all_closed (all_closed q) ≡ all_closed q
 closed_twice q = ap (λ (l : List Body). record { least = q.least; number = q.number; closed = l; begun = [] }) (append-nil (q.closed ++ q.begun))
 
--- ---- bodies that were given
+-- ---- batches that wait before those of the walk
 
-with_append : (d e : List Body) (q : Queue) → with_bodies q (d ++ e) ≡ with_bodies (with_bodies q d) e
-with_append [] e q = refl
-with_append (b ∷ d) e q = with_append d e (with_body q b)
+-- batches from a number on, with these before the closed ones
+abbrev pub behind : ℕ → List Body → Queue → Queue
+behind number front q = record { least = q.least; number = number; closed = front ++ q.closed; begun = q.begun }
+
+begun_behind : (number : ℕ) (front : List Body) (q : Queue) (bodies : List Body) → with_begun (behind number front q) bodies ≡ behind number front (with_begun q bodies)
+begun_behind number front q bodies = elim (cases_Bool (leb q.least (bytes_of bodies))) [
+  | inl e ↦ rw e (ap (λ (l : List Body). record { least = q.least; number = number; closed = l; begun = [] }) (append_assoc front q.closed bodies))
+  | inr e ↦ rw e refl
+]
+
+with_behind : (bodies : List Body) (number : ℕ) (front : List Body) (q : Queue) → with_bodies (behind number front q) bodies ≡ behind number front (with_bodies q bodies)
+with_behind [] number front q = refl
+with_behind (b ∷ bodies) number front q =
+    ap (λ (p : Queue). with_bodies p bodies) (begun_behind number front q (q.begun ++ b ∷ [])) ∙ with_behind bodies number front (with_body q b)
 
 abbrev pub handed_of : Queue → End → Handed
 handed_of q e = record { queue = q; ending = e }
 
-pub handed_after : (q : Queue) (d : List Body) (g : Given) → handed q (after_bodies d g) ≡ handed (with_bodies q d) g
-handed_after q d g = ap (λ (p : Queue). handed_of (finished g.ending p) g.ending) (with_append d g.bodies q)
+abbrev handed_behind : ℕ → List Body → Batched → Handed
+handed_behind number front b = handed_of (finished b.ending (behind number front b.queue)) b.ending
 
-pub moved : (v w : Walk) (p q : Queue) (bytes more : List ℕ) → v.done ≡ [] → given v bytes ≡ given w more → q ≡ with_bodies p w.done → handed p (still (position_of v) bytes) ≡ handed q (still (position_of w) more)
+handed_there : (number : ℕ) (front : List Body) (q : Queue) (g : Given) → handed (behind number front q) g ≡ handed_behind number front (after_batches q g)
+handed_there number front q g = ap (λ (p : Queue). handed_of (finished g.ending p) g.ending) (with_behind g.bodies number front q)
+
+-- the batches that wait, and those of a walk
+pub moved : (v w : Walk) (number : ℕ) (front : List Body) (bytes more : List ℕ) → given v bytes ≡ given w more
+    → handed (behind number front (batches_of v)) (still (position_of v) bytes) ≡ handed (behind number front (batches_of w)) (still (position_of w) more)
 unfolding given
-moved v w p q bytes more none same e =
-    ap (handed p) (none_given v bytes (after_bodies w.done (still (position_of w) more)) none same)
-    ∙ handed_after p w.done (still (position_of w) more)
-    ∙ ap (λ (q : Queue). handed q (still (position_of w) more)) (sym e)
+moved v w number front bytes more same =
+    handed_there number front (batches_of v) (still (position_of v) bytes)
+    ∙ ap (handed_behind number front) same
+    ∙ sym (handed_there number front (batches_of w) (still (position_of w) more))
 
-pub closing : (w : Walk) (q : Queue) (more : List ℕ) → IsSound w → is_over w ≡ true → handed q (still (position_of w) more) ≡ handed (all_closed q) (still (position_of w) more)
-closing w q more sound e =
+-- where a walk gave no batch and none waits
+pub first_given : (w : Walk) (more : List ℕ) (g : Given) → given w more ≡ after_batches (batches_of w) g → handed (batches_of w) (still (position_of w) more) ≡ handed (batches_of w) g
+unfolding given
+first_given w more g same = ap (λ (b : Batched). handed_of (finished b.ending b.queue) b.ending) same
+
+abbrev queue : Walk → ℕ → List Body → Queue
+queue w number waits = record { least = w.least; number = number; closed = waits; begun = w.block.bodies }
+
+-- nothing came yet
+pub none_waits : (w : Walk) (q : Waiting) → (q.number ≡ 0) × (q.closed ≡ []) × (q.last ≡ None) → w.closed ≡ [] → queue_of w q ≡ batches_of w
+none_waits w q (number, waits, last) none =
+    ap (λ (k : ℕ). queue w k (waiting q)) number
+    ∙ ap (λ (o : Option (List Body)). queue w 0 (joined q.closed ++ last_of o)) last
+    ∙ ap (λ (l : List (List Body)). queue w 0 (joined l ++ [])) waits
+    ∙ ap (λ (l : List (List Body)). queue w 0 (joined l)) (sym none)
+
+pub first_batches : (w : Walk) (least : ℕ) → w.least ≡ least → w.closed ≡ [] → w.block ≡ no_bodies → batches_of w ≡ no_batch least
+first_batches w least e none empty =
+    ap (λ (k : ℕ). record { least = k; number = 0; closed = joined w.closed; begun = w.block.bodies }) e
+    ∙ ap (λ (l : List (List Body)). record { least = least; number = 0; closed = joined l; begun = w.block.bodies }) none
+    ∙ ap (λ (b : Block). record { least = least; number = 0; closed = []; begun = b.bodies }) empty
+
+-- between two calls the walk has closed none
+pub waits_before : (w : Walk) (q : Waiting) → w.closed ≡ [] → queue_of w q ≡ behind q.number (waiting q) (batches_of w)
+waits_before w q e =
+    ap (queue w q.number) (sym (append-nil (waiting q)) ∙ ap (λ (l : List (List Body)). waiting q ++ joined l) (sym e))
+
+-- those that it closed are moved behind those that wait
+pub waits_after : (old new : Waiting) (closed : List (List Body)) → old.last ≡ None → new.last ≡ None → new.closed ≡ old.closed ++ closed → waiting new ≡ waiting old ++ joined closed
+waits_after old new closed e f is =
+    ap (λ (o : Option (List Body)). joined new.closed ++ last_of o) f
+    ∙ append-nil (joined new.closed)
+    ∙ ap joined is
+    ∙ joined_append old.closed closed
+    ∙ ap (λ (l : List Body). l ++ joined closed) (sym (append-nil (joined old.closed)) ∙ ap (λ (o : Option (List Body)). joined old.closed ++ last_of o) (sym e))
+
+pub queue_after : (w : Walk) (old new : Waiting) → old.last ≡ None → new.last ≡ None → new.number ≡ old.number → new.closed ≡ old.closed ++ w.closed
+    → queue_of w new ≡ behind old.number (waiting old) (batches_of w)
+queue_after w old new e f number is = ap (λ (k : ℕ). queue w k (waiting new)) number ∙ ap (queue w old.number) (waits_after old new w.closed e f is)
+
+-- a walk that ran, and the queue that has its batches
+pub run_moves : (w v : Walk) (q r : Waiting) (bytes more : List ℕ) → w.closed ≡ [] → q.last ≡ None → r.last ≡ None → r.number ≡ q.number → r.closed ≡ q.closed ++ v.closed → given w bytes ≡ given v more
+    → handed (queue_of w q) (still (position_of w) bytes) ≡ handed (queue_of v r) (still (position_of v) more)
+run_moves w v q r bytes more none before after number closed same =
+    ap (λ (p : Queue). handed p (still (position_of w) bytes)) (waits_before w q none)
+    ∙ moved w v q.number (waiting q) bytes more same
+    ∙ sym (ap (λ (p : Queue). handed p (still (position_of v) more)) (queue_after v q r before after number closed))
+
+-- ---- the batch that is begun closes
+
+-- what is handed over then, where no byte can follow
+pub closing : (w v : Walk) (q : Queue) (more : List ℕ) → IsSound w → IsSound v → is_over w ≡ true → is_over v ≡ true → end_by v ≡ end_by w
+    → handed q (still (position_of w) more) ≡ handed (all_closed q) (still (position_of v) more)
+closing w v q more sound after e f same =
     let b = eqb w.count 0 && eqb w.at w.end in
-    let is = over w sound e more in
-    ap (handed q) is
+    ap (handed q) (over w sound e more)
     ∙ ap (λ (p : Queue). handed_of p (end_by w)) (closes w.stop b q e ∙ sym (closed_twice q) ∙ sym (closes w.stop b (all_closed q) e))
-    ∙ sym (ap (handed (all_closed q)) is)
+    ∙ ap (λ (x : End). handed (all_closed q) (ends x)) (sym same)
+    ∙ sym (ap (handed (all_closed q)) (over v after f more))
 
-sized_queue : (q : Queue) (bodies : List Body) → length (with_begun q bodies).closed + length (with_begun q bodies).begun ≡ length q.closed + length bodies
-sized_queue q bodies = elim (cases_Bool (leb q.least (bytes_of bodies))) [
-  | inl e ↦ rw e (omega (arith, length-append q.closed bodies))
-  | inr e ↦ rw e refl
-]
+-- a walk without its bodies is one
+stop_hand : (w : Walk) (o : Option Refusal) (s : Bool) → IsSound w → w.stop ≡ o → w.sized ≡ s → is_over w ≡ true → UnlessRefused o (IsInHand (record w { block = no_bodies }) s)
+stop_hand w (Some r) s sound e f over = tt
+stop_hand w None true sound e f over =
+    let h : IsInBody w = hand w sound None true e f in
+    let t = subst (λ (o : Option Refusal). (is_some o || (eqb w.count 0 && eqb w.at w.end)) ≡ true) e over in
+    let b = some_owed w sound h.one in
+    absurd (let k : true ≡ false = sym t ∙ b in cc)
+stop_hand w None false sound e f over =
+    let h : IsAtSize w = hand w sound None false e f in
+    record { place = h.place; bits = h.bits; signed = h.signed; unfinished = h.unfinished; empty = refl; room = h.room; fresh = h.fresh }
 
-numbered_queue : (q : Queue) (bodies : List Body) → (with_begun q bodies).number ≡ q.number
-numbered_queue q bodies = elim (cases_Bool (leb q.least (bytes_of bodies))) [
-  | inl e ↦ rw e refl
-  | inr e ↦ rw e refl
-]
-
-pub length_with : (d : List Body) (q : Queue) → length (with_bodies q d).closed + length (with_bodies q d).begun ≡ length q.closed + length q.begun + length d
-length_with [] q = omega arith
-length_with (b ∷ d) q =
-    omega (arith, length_with d (with_body q b), sized_queue q (q.begun ++ b ∷ []), length-append q.begun (b ∷ []))
-
-pub number_with : (d : List Body) (q : Queue) → (with_bodies q d).number ≡ q.number
-number_with [] q = refl
-number_with (b ∷ d) q = number_with d (with_body q b) ∙ numbered_queue q (q.begun ++ b ∷ [])
+pub sound_without : (w : Walk) → IsSound w → is_over w ≡ true → IsSound (record w { block = no_bodies })
+sound_without w sound over = record {
+  counted = sound.counted;
+  inside = sound.inside;
+  fits = sound.fits;
+  hand = stop_hand w w.stop w.sized sound refl refl over;
+}
 
 -- ---- after a refusal
 

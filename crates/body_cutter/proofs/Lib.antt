@@ -2,5 +2,8 @@ pub mod Sizes
 pub mod Steps
 pub mod Fills
 pub mod Batches
+pub mod Starts
 pub mod Cuts
+pub mod Kept
 pub mod Joined
+pub mod Blocks

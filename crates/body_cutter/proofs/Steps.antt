@@ -11,8 +11,8 @@ use Rattle.leb_feed.specs.declared.leb.Fed.TheVariants as fed
 use Rattle.leb_feed.specs.Feeding.{Feeding, with_byte, told}
 use Rattle.leb_feed.proofs.Casts.{unsigned_natural, spelled_bounds, wide_is}
 use Rattle.body_cutter.specs.declared.walk.Walk.{Walk}
-use Rattle.body_cutter.specs.Sections.{ends, Faulty, after_bodies, bodies_from, size_fault, goes_on, with_part, sized}
-use Rattle.body_cutter.specs.Walks.{given, index_of, from_size, from_body, IsAtSize, IsSound, IsInHand, UnlessRefused}
+use Rattle.body_cutter.specs.Sections.{ends, Faulty, bodies_from, size_fault, goes_on, with_part, sized}
+use Rattle.body_cutter.specs.Walks.{given, batches_of, after_batches, index_of, from_size, from_body, IsAtSize, IsSound, IsInHand, UnlessRefused}
 use Rattle.body_cutter.proofs.Sizes.{from_there, malformed, cut_size, bad_size, whole_size, after_size, left_over}
 
 told_more : (r : Reading) → fed.More ≡ told r → r ≡ CutOff
@@ -25,15 +25,11 @@ told_bad (Number n len) e = absurd cc
 told_bad CutOff e = absurd cc
 told_bad Bad e = refl
 
-pub stopped : (w : Walk) (r : Refusal) (more : List ℕ) → w.stop ≡ Some r → given w more ≡ after_bodies w.done (ends (Faulty r))
-unfolding given
-stopped w r more e = rw e refl
-
-pub in_size : (w : Walk) (more : List ℕ) → w.sized ≡ false → w.stop ≡ None → given w more ≡ after_bodies w.done (from_size w more)
+pub in_size : (w : Walk) (more : List ℕ) → w.sized ≡ false → w.stop ≡ None → given w more ≡ after_batches (batches_of w) (from_size w more)
 unfolding given
 in_size w more e f = rw (f, e) refl
 
-pub in_body : (w : Walk) (more : List ℕ) → w.sized ≡ true → w.stop ≡ None → given w more ≡ after_bodies w.done (from_body w more)
+pub in_body : (w : Walk) (more : List ℕ) → w.sized ≡ true → w.stop ≡ None → given w more ≡ after_batches (batches_of w) (from_body w more)
 unfolding given
 in_body w more e f = rw (f, e) refl
 
@@ -47,16 +43,16 @@ module _ (w : Walk) (sound : IsSound w) (unsized : w.sized ≡ false) (going : w
   hand = hand_at_size w sound unsized going
 
   -- a byte after the last body
-  pub behind_last : (more : List ℕ) → w.count ≡ 0 → given w (b ∷ more) ≡ after_bodies w.done (malformed w.at)
+  pub behind_last : (more : List ℕ) → w.count ≡ 0 → given w (b ∷ more) ≡ after_batches (batches_of w) (malformed w.at)
   behind_last more none =
       let h = hand in
       let place : w.size_at ≡ w.at = omega (arith, h.place, ap length (h.fresh none)) in
       let rest : w.leb.bytes ++ b ∷ more ≡ b ∷ more = rw (h.fresh none) refl in
       in_size w (b ∷ more) unsized going
-      ∙ ap (λ (k : ℕ). after_bodies w.done (bodies_from (index_of w) k (from_there w.size_at (w.leb.bytes ++ b ∷ more) w.end))) none
-      ∙ ap (λ (k : ℕ). after_bodies w.done (bodies_from (index_of w) 0 (from_there k (w.leb.bytes ++ b ∷ more) w.end))) place
-      ∙ ap (λ (l : List ℕ). after_bodies w.done (bodies_from (index_of w) 0 (from_there w.at l w.end))) rest
-      ∙ ap (after_bodies w.done) (left_over (index_of w) w.at w.end b more inside)
+      ∙ ap (λ (k : ℕ). after_batches (batches_of w) (bodies_from (index_of w) k (from_there w.size_at (w.leb.bytes ++ b ∷ more) w.end))) none
+      ∙ ap (λ (k : ℕ). after_batches (batches_of w) (bodies_from (index_of w) 0 (from_there k (w.leb.bytes ++ b ∷ more) w.end))) place
+      ∙ ap (λ (l : List ℕ). after_batches (batches_of w) (bodies_from (index_of w) 0 (from_there w.at l w.end))) rest
+      ∙ ap (after_batches (batches_of w)) (left_over (index_of w) w.at w.end b more inside)
 
   module _ (one : 0 < w.count) (leb : Feeding) (grows : leb ≡ with_byte w.leb b) (more : List ℕ) where
     bytes_are : leb.bytes ≡ w.leb.bytes ++ b ∷ []
@@ -68,32 +64,32 @@ module _ (w : Walk) (sound : IsSound w) (unsized : w.sized ≡ false) (going : w
     plain : number_at leb.signed leb.bits leb.bytes ≡ number_at false 32 leb.bytes
     plain = let h = hand in rw (ap (λ (f : Feeding). f.signed) grows ∙ h.signed, ap (λ (f : Feeding). f.bits) grows ∙ h.bits) refl
 
-    joined : given w (b ∷ more) ≡ after_bodies w.done (bodies_from (index_of w) (suc (w.count - 1)) (from_there w.size_at (leb.bytes ++ more) w.end))
+    joined : given w (b ∷ more) ≡ after_batches (batches_of w) (bodies_from (index_of w) (suc (w.count - 1)) (from_there w.size_at (leb.bytes ++ more) w.end))
     joined =
         let n : w.count ≡ suc (w.count - 1) = omega arith in
         let rest : w.leb.bytes ++ b ∷ more ≡ leb.bytes ++ more = sym (ap (λ (l : List ℕ). l ++ more) bytes_are ∙ append_assoc w.leb.bytes (b ∷ []) more) in
         in_size w (b ∷ more) unsized going
-        ∙ ap (λ (l : List ℕ). after_bodies w.done (bodies_from (index_of w) w.count (from_there w.size_at l w.end))) rest
-        ∙ ap (λ (k : ℕ). after_bodies w.done (bodies_from (index_of w) k (from_there w.size_at (leb.bytes ++ more) w.end))) n
+        ∙ ap (λ (l : List ℕ). after_batches (batches_of w) (bodies_from (index_of w) w.count (from_there w.size_at l w.end))) rest
+        ∙ ap (λ (k : ℕ). after_batches (batches_of w) (bodies_from (index_of w) k (from_there w.size_at (leb.bytes ++ more) w.end))) n
 
     -- the section's end cuts the size off
-    pub cut_off : w.at + 1 ≡ w.end → fed.More ≡ told (number_at leb.signed leb.bits leb.bytes) → given w (b ∷ more) ≡ after_bodies w.done (malformed w.size_at)
+    pub cut_off : w.at + 1 ≡ w.end → fed.More ≡ told (number_at leb.signed leb.bits leb.bytes) → given w (b ∷ more) ≡ after_batches (batches_of w) (malformed w.size_at)
     cut_off over e =
         let all : length leb.bytes ≡ w.end - w.size_at = omega (arith, long, (hand).place) in
-        joined ∙ ap (after_bodies w.done) (cut_size (index_of w) (w.count - 1) w.size_at w.end leb.bytes more all (sym plain ∙ told_more (number_at leb.signed leb.bits leb.bytes) e))
+        joined ∙ ap (after_batches (batches_of w)) (cut_size (index_of w) (w.count - 1) w.size_at w.end leb.bytes more all (sym plain ∙ told_more (number_at leb.signed leb.bits leb.bytes) e))
 
     -- no size begins so
-    pub no_size : fed.Bad ≡ told (number_at leb.signed leb.bits leb.bytes) → given w (b ∷ more) ≡ after_bodies w.done (malformed w.size_at)
+    pub no_size : fed.Bad ≡ told (number_at leb.signed leb.bits leb.bytes) → given w (b ∷ more) ≡ after_batches (batches_of w) (malformed w.size_at)
     no_size e =
         let within : length leb.bytes ≤ w.end - w.size_at = omega (arith, long, (hand).place) in
-        joined ∙ ap (after_bodies w.done) (bad_size (index_of w) (w.count - 1) w.size_at w.end leb.bytes more within (sym plain ∙ told_bad (number_at leb.signed leb.bits leb.bytes) e))
+        joined ∙ ap (after_batches (batches_of w)) (bad_size (index_of w) (w.count - 1) w.size_at w.end leb.bytes more within (sym plain ∙ told_bad (number_at leb.signed leb.bits leb.bytes) e))
 
     -- more bytes are owed
     pub still_in_size : given w (b ∷ more) ≡ given (record w { at = w.at + 1; leb = leb }) more
     still_in_size =
         let n : suc (w.count - 1) ≡ w.count = omega arith in
         joined
-        ∙ ap (λ (k : ℕ). after_bodies w.done (bodies_from (index_of w) k (from_there w.size_at (leb.bytes ++ more) w.end))) n
+        ∙ ap (λ (k : ℕ). after_batches (batches_of w) (bodies_from (index_of w) k (from_there w.size_at (leb.bytes ++ more) w.end))) n
         ∙ sym (in_size (record w { at = w.at + 1; leb = leb }) more unsized going)
 
     -- the number that is answered
@@ -116,28 +112,28 @@ module _ (w : Walk) (sound : IsSound w) (unsized : w.sized ≡ false) (going : w
       within_section = omega (arith, long, (hand).place)
 
       -- the size is whole
-      pub size_whole : given w (b ∷ more) ≡ after_bodies w.done (after_size (index_of w) (w.count - 1) w.size_at w.end leb.bytes more v plainly within_section (size_fault v (w.end - (w.at + 1))))
+      pub size_whole : given w (b ∷ more) ≡ after_batches (batches_of w) (after_size (index_of w) (w.count - 1) w.size_at w.end leb.bytes more v plainly within_section (size_fault v (w.end - (w.at + 1))))
       size_whole =
           let e : w.end - (w.size_at + length leb.bytes) ≡ w.end - (w.at + 1) = ap (λ (k : ℕ). w.end - k) long in
           joined
-          ∙ ap (after_bodies w.done) (whole_size (index_of w) (w.count - 1) w.size_at w.end leb.bytes more v plainly within_section)
-          ∙ ap (λ (k : ℕ). after_bodies w.done (after_size (index_of w) (w.count - 1) w.size_at w.end leb.bytes more v plainly within_section (size_fault v k))) e
+          ∙ ap (after_batches (batches_of w)) (whole_size (index_of w) (w.count - 1) w.size_at w.end leb.bytes more v plainly within_section)
+          ∙ ap (λ (k : ℕ). after_batches (batches_of w) (after_size (index_of w) (w.count - 1) w.size_at w.end leb.bytes more v plainly within_section (size_fault v k))) e
 
       -- the size is wrong
-      pub size_wrong : (kind : Kind) → Some kind ≡ size_fault v (w.end - (w.at + 1)) → given w (b ∷ more) ≡ after_bodies w.done (ends (Faulty (record { offset = w.size_at; kind = kind })))
+      pub size_wrong : (kind : Kind) → Some kind ≡ size_fault v (w.end - (w.at + 1)) → given w (b ∷ more) ≡ after_batches (batches_of w) (ends (Faulty (record { offset = w.size_at; kind = kind })))
       size_wrong kind e =
-          size_whole ∙ ap (λ (f : Option Kind). after_bodies w.done (after_size (index_of w) (w.count - 1) w.size_at w.end leb.bytes more v plainly within_section f)) (sym e)
+          size_whole ∙ ap (λ (f : Option Kind). after_batches (batches_of w) (after_size (index_of w) (w.count - 1) w.size_at w.end leb.bytes more v plainly within_section f)) (sym e)
 
       -- the size is right, and the body begins
       pub size_right : None ≡ size_fault v (w.end - (w.at + 1)) → given w (b ∷ more) ≡ given (record w { at = w.at + 1; leb = leb; sized = true; len = v }) more
       size_right e =
           let h = hand in
-          let place : w.size_at + length leb.bytes ≡ w.at + 1 - length w.bytes.items = omega (arith, long, ap length h.empty) in
-          let rest : more ≡ w.bytes.items ++ more = rw h.empty refl in
+          let place : w.size_at + length leb.bytes ≡ w.at + 1 - length w.block.rest = omega (arith, long, ap length h.empty) in
+          let rest : more ≡ w.block.rest ++ more = rw h.empty refl in
           size_whole
-          ∙ ap (λ (f : Option Kind). after_bodies w.done (after_size (index_of w) (w.count - 1) w.size_at w.end leb.bytes more v plainly within_section f)) (sym e)
-          ∙ ap (λ (k : ℕ). after_bodies w.done (goes_on (sized w.size_at v (from_there k more w.end)) (λ part d. with_part (index_of w) part (bodies_from (suc (index_of w)) (w.count - 1) d)))) place
-          ∙ ap (λ (l : List ℕ). after_bodies w.done (goes_on (sized w.size_at v (from_there (w.at + 1 - length w.bytes.items) l w.end)) (λ part d. with_part (index_of w) part (bodies_from (suc (index_of w)) (w.count - 1) d)))) rest
+          ∙ ap (λ (f : Option Kind). after_batches (batches_of w) (after_size (index_of w) (w.count - 1) w.size_at w.end leb.bytes more v plainly within_section f)) (sym e)
+          ∙ ap (λ (k : ℕ). after_batches (batches_of w) (goes_on (sized w.size_at v (from_there k more w.end)) (λ part d. with_part (index_of w) part (bodies_from (suc (index_of w)) (w.count - 1) d)))) place
+          ∙ ap (λ (l : List ℕ). after_batches (batches_of w) (goes_on (sized w.size_at v (from_there (w.at + 1 - length w.block.rest) l w.end)) (λ part d. with_part (index_of w) part (bodies_from (suc (index_of w)) (w.count - 1) d)))) rest
           ∙ sym (in_body (record w { at = w.at + 1; leb = leb; sized = true; len = v }) more refl going)
 
 -- a size is a natural number of 32 bits

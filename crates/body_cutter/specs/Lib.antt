@@ -1,7 +1,7 @@
+pub mod Bodies
 pub mod Sections
 pub mod Places
-pub mod Walks
 pub mod Queues
-pub mod Tallies
+pub mod Walks
 pub mod Cuttings
 pub mod Held

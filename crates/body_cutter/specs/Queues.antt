@@ -1,6 +1,6 @@
 -- Bodies in batches.
-use Rattle.std.specs.Prelude.{◌≡◌, ℕ, suc, ◌+◌, ◌-◌, List, [], ◌∷◌, ◌++◌, length, drop, nat_le, if◌then◌else◌}
-use Rattle.body_cutter.specs.declared.body.Body.{Body}
+use Rattle.std.specs.Prelude.{◌≡◌, ℕ, suc, ◌-◌, ◌<◌, ◌⊎◌, List, [], ◌∷◌, ◌++◌, length, drop, nat_le, if◌then◌else◌}
+use Rattle.body_cutter.specs.Bodies.{Body, bytes_of}
 
 -- batches from a number on: the bodies of those that are closed, one after another, and of the one that is begun; a batch
 -- closes where its bodies have so many bytes
@@ -13,10 +13,6 @@ pub record Queue : Type 0 where
 -- all bodies, in order
 abbrev pub bodies_in : Queue → List Body
 bodies_in q = q.closed ++ q.begun
-
-abbrev pub bytes_of : List Body → ℕ
-bytes_of [] = 0
-bytes_of (b ∷ bodies) = length b.bytes + bytes_of bodies
 
 -- the batch that is begun gains a body
 abbrev pub with_begun : Queue → List Body → Queue
@@ -50,18 +46,22 @@ abbrev pub starts_at : ℕ → List Body → Type 0
 starts_at start [] = ⊥
 starts_at start (b ∷ bodies) = start ≡ b.size
 
--- ---- how the batches of one list of bodies are counted
+-- ---- batches that are lists of their own
 
--- how many bodies there are, how many of them are those of closed batches, and how many bytes the others have
-pub record Counts : Type 0 where
-  pub all : ℕ
-  pub settled : ℕ
-  pub bytes : ℕ
+abbrev pub joined : List (List Body) → List Body
+joined [] = []
+joined (batch ∷ batches) = batch ++ joined batches
 
-abbrev pub with_count : ℕ → ℕ → ℕ → ℕ → Counts
-with_count least all settled bytes =
-    if nat_le least bytes then record { all = all; settled = all; bytes = 0 } else record { all = all; settled = settled; bytes = bytes }
+-- there is a body, and whatever bodies follow, the first batch is these
+pub record IsFull (least : ℕ) (batch : List Body) : Type 0 where
+  pub some : 0 < length batch
+  pub first : (bodies : List Body) → batch_length least (batch ++ bodies) ≡ length batch
 
-abbrev pub counted : ℕ → Counts → List Body → Counts
-counted least k [] = k
-counted least k (b ∷ bodies) = counted least (with_count least (k.all + 1) k.settled (k.bytes + length b.bytes)) bodies
+-- there is a body, and where none follows, the first batch is these
+pub record IsLast (least : ℕ) (batch : List Body) : Type 0 where
+  pub some : 0 < length batch
+  pub first : batch_length least batch ≡ length batch
+
+-- they have too few bytes for a batch
+abbrev pub AreFew : ℕ → List Body → Type 0
+AreFew least bodies = (bodies ≡ []) ⊎ (bytes_of bodies < least)

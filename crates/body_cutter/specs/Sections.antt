@@ -1,12 +1,12 @@
 -- A code section's bodies, read from the left: those that are complete, and what ends them (WebAssembly Core 1.0, 5.5.13).
-use Rattle.std.specs.Prelude.{ℕ, zero, suc, false, ◌||◌, List, [], ◌∷◌, ◌++◌, Option, Some, None, nat_lt, if◌then◌else◌}
+use Rattle.std.specs.Prelude.{ℕ, zero, suc, false, ◌||◌, List, [], ◌∷◌, Option, Some, None, nat_lt, if◌then◌else◌}
 use Rattle.wasm_defs.specs.declared.fault.Kind.{Kind}
 use Rattle.wasm_defs.specs.declared.fault.Kind.TheVariants.{Malformed, Limit}
 use Rattle.wasm_defs.specs.declared.fault.Refusal.{Refusal}
 use Rattle.wasm_defs.specs.Limits.{max_body}
 use Rattle.wasm_defs.specs.Fields.{Cursor, Read, Got, Fault, Wants, Reader, ◌>>=◌, done, run, here}
 use Rattle.wasm_defs.specs.Outside.{Part, Section, Listed, Coded, body, section_end}
-use Rattle.body_cutter.specs.declared.body.Body.{Body}
+use Rattle.body_cutter.specs.Bodies.{Body}
 
 -- the section is whole, it has an error, or more bytes are owed
 pub data End : Type 0 where
@@ -20,9 +20,6 @@ pub record Given : Type 0 where
 
 abbrev pub ends : End → Given
 ends ending = record { bodies = []; ending = ending }
-
-abbrev pub after_bodies : List Body → Given → Given
-after_bodies bodies g = record { bodies = bodies ++ g.bodies; ending = g.ending }
 
 -- a body, as that of a function
 abbrev pub with_part : ℕ → Part → Given → Given

@@ -1,11 +1,12 @@
 -- What a walk over a code section has given, and has still to give.
-use Rattle.std.specs.Prelude.{◌≡◌, ℕ, ◌+◌, ◌-◌, ◌<◌, ◌≤◌, ◌^◌, Bool, true, false, List, [], ◌∷◌, length, take, Option, None, Some, is_some, ◌||◌, ◌&&◌, ◌==◌}
+use Rattle.std.specs.Prelude.{◌≡◌, ℕ, ◌+◌, ◌-◌, ◌<◌, ◌≤◌, ◌^◌, Bool, true, false, List, [], ◌∷◌, length, All, Option, None, Some, is_some, ◌||◌, ◌&&◌, ◌==◌}
 use Rattle.wasm_defs.specs.declared.fault.Refusal.{Refusal}
 use Rattle.wasm_defs.specs.Limits.{max_body}
 use Rattle.leb_feed.specs.Feeding.{IsUnfinished}
-use Rattle.body_cutter.specs.declared.body.Body.{Body}
 use Rattle.body_cutter.specs.declared.walk.Walk.{Walk}
-use Rattle.body_cutter.specs.Sections.{Given, after_bodies}
+use Rattle.body_cutter.specs.Bodies.{Body, Block, Begins}
+use Rattle.body_cutter.specs.Sections.{Given, End}
+use Rattle.body_cutter.specs.Queues.{Queue, with_bodies, joined, IsFull as IsFullBatch, AreFew}
 use Rattle.body_cutter.specs.Places.{Place, on_size, on_body, on_hand, still}
 
 -- where a walk is
@@ -19,7 +20,7 @@ position_of w = record {
   size = w.leb.bytes;
   sized = w.sized;
   len = w.len;
-  bytes = w.bytes.items;
+  bytes = w.block.rest;
   stop = w.stop;
 }
 
@@ -35,9 +36,26 @@ from_body w more = on_body (position_of w) more
 abbrev pub from_hand : Walk → Bool → List ℕ → Given
 from_hand w sized more = on_hand (position_of w) sized more
 
--- the bodies that were given, and those that are to come where these bytes come next
-unfoldable pub given : Walk → List ℕ → Given
-given w more = after_bodies w.done (still (position_of w) more)
+-- its batches: those that were closed on the way, and the one that is begun
+abbrev pub batches_of : Walk → Queue
+batches_of w = record { least = w.least; number = 0; closed = joined w.closed; begun = w.block.bodies }
+
+-- batches, and how the section ends
+pub record Batched : Type 0 where
+  pub queue : Queue
+  pub ending : End
+
+abbrev pub after_batches : Queue → Given → Batched
+after_batches q g = record { queue = with_bodies q g.bodies; ending = g.ending }
+
+-- its batches with the bodies that are to come where these bytes come next
+unfoldable pub given : Walk → List ℕ → Batched
+given w more = after_batches (batches_of w) (still (position_of w) more)
+
+-- those that were closed are batches, and the one that is begun has too few bytes for one
+pub record AreBatches (w : Walk) : Type 0 where
+  pub full : All (IsFullBatch w.least) w.closed
+  pub few : AreFew w.least w.block.bodies
 
 -- a size is begun, and the section has room for more of it; or no body is to come
 pub record IsAtSize (w : Walk) : Type 0 where
@@ -45,17 +63,17 @@ pub record IsAtSize (w : Walk) : Type 0 where
   pub bits : w.leb.bits ≡ 32
   pub signed : w.leb.signed ≡ false
   pub unfinished : IsUnfinished w.leb
-  pub empty : w.bytes.items ≡ []
+  pub empty : w.block.rest ≡ []
   pub room : 0 < w.count → w.at < w.end
   pub fresh : w.count ≡ 0 → w.leb.bytes ≡ []
 
 -- a body is begun: its size was right, and it isn't complete
 pub record IsInBody (w : Walk) : Type 0 where
   pub one : 0 < w.count
-  pub short : length w.bytes.items < w.len
+  pub short : length w.block.rest < w.len
   pub small : w.len ≤ max_body
-  pub came : length w.bytes.items ≤ w.at
-  pub room : w.at + w.len ≤ w.end + length w.bytes.items
+  pub came : length w.block.rest ≤ w.at
+  pub room : w.at + w.len ≤ w.end + length w.block.rest
 
 abbrev pub IsInHand : Walk → Bool → Type 0
 IsInHand w false = IsAtSize w
@@ -76,7 +94,7 @@ pub record IsBetween (w : Walk) : Type 0 where
   pub place : w.size_at ≡ w.at
   pub begun : w.leb ≡ record { bits = 32; signed = false; bytes = [] }
   pub unfinished : IsUnfinished w.leb
-  pub empty : w.bytes.items ≡ []
+  pub empty : w.block.rest ≡ []
   pub unsized : w.sized ≡ false
   pub going : w.stop ≡ None
   pub counted : w.count ≤ w.behind
@@ -88,21 +106,21 @@ pub record IsFull (w : Walk) : Type 0 where
   pub sized : w.sized ≡ true
   pub going : w.stop ≡ None
   pub one : 0 < w.count
-  pub full : length w.bytes.items ≡ w.len
+  pub full : length w.block.rest ≡ w.len
   pub small : w.len ≤ max_body
   pub came : w.len ≤ w.at
   pub counted : w.count ≤ w.behind
   pub inside : w.at ≤ w.end
   pub fits : w.end < 2 ^ 60
 
--- the first of the bytes of bodies that were given, or of those that came of the one in hand
-abbrev pub first_bytes : List Body → List ℕ → List ℕ
-first_bytes [] bytes = bytes
-first_bytes (b ∷ bodies) bytes = b.bytes
+-- the first batch that was closed on the way, or what is begun
+abbrev pub first_block : List (List Body) → Block → Block
+first_block [] block = block
+first_block (batch ∷ batches) block = record { bodies = batch; rest = [] }
 
--- bytes that came before are still the first ones
-abbrev pub Begins : List ℕ → Walk → Type 0
-Begins before w = take (length before) (first_bytes w.done w.bytes.items) ≡ before
+-- it still begins with the bodies and the bytes that there were
+abbrev pub Starts : Block → Walk → Type 0
+Starts saved w = Begins saved (first_block w.closed w.block)
 
 -- no byte of the section can follow
 abbrev pub is_over : Walk → Bool

@@ -1,47 +1,68 @@
 //! Batches of bodies.
 
-ghost use Rattle.std.specs.Prelude.{◌≡◌};
+ghost use Rattle.std.specs.Prelude.{◌≡◌, ◌<◌, ◌≤◌, [], length, IsTrue};
+ghost use Rattle.wasm_defs.specs.Limits.{max_body};
+ghost use Rattle.body_cutter.specs.Bodies.{body_of, body_at};
 
-use crate::body::Body;
-use std::collections::LinkedList;
+use crate::block::BodyBlock;
+use crate::body::BodyView;
 use std::marker::Model;
 
 /// The bodies of a batch.
 #[derive(Drop)]
 pub struct Bodies {
-    // Why: docs/DECISIONS.md, "The bodies of a batch are a linked list"
-    bodies: LinkedList<Body>,
+    block: BodyBlock,
 }
 
 impl Model for Bodies {
-    ghost use Rattle.std.specs.Prelude.{List};
-    ghost use Rattle.body_cutter.specs.declared.body.Body.{Body};
+    ghost use Rattle.std.specs.Prelude.{◌≡◌, List, []};
+    ghost use Rattle.body_cutter.specs.Bodies.{Body};
 
     ghost Value = { List Body };
 
-    ghost view = { λ l. l.bodies };
+    ghost view = { λ l. l.block.bodies };
+
+    ghost invariant = { λ l. l.block.rest ≡ [] };
 }
 
 impl Bodies {
-    /// The bodies of the list, in order.
-    pub fn new(bodies: LinkedList<Body>) -> Self
-        ensures { result ≡ bodies }
+    /// The complete bodies of a block, in no more room than they need. It takes no memory.
+    pub fn new(block: BodyBlock) -> Self
+        ensures { result ≡ block.bodies }
     {
-        Bodies { bodies }
+        Bodies {
+            block: block.without_rest(),
+        }
     }
 
-    /// The bodies in order.
-    pub fn as_list(&self) -> &LinkedList<Body>
-        ensures { result.now ≡ self.now }
+    /// How many there are.
+    pub fn count(&self) -> usize
+        ensures { result ≡ length self.now }
     {
-        &self.bodies
+        self.block.count()
+    }
+
+    /// The body of an index.
+    pub fn get(&self, index: usize) -> BodyView<'_>
+        requires { index < length self.now }
+        ensures body { body_of result ≡ body_at self.now index }
+        ensures small { length result.bytes.now ≤ max_body }
+    {
+        self.block.get(index)
+    }
+
+    /// Whether the others are the same bodies.
+    pub fn is_same(&self, others: &Bodies) -> bool
+        ensures { IsTrue result → others.now ≡ self.now }
+    {
+        self.block.is_same(&others.block)
     }
 
     /// Gives the bodies back, without taking memory.
-    pub fn into_list(self) -> LinkedList<Body>
-        ensures { result ≡ self }
+    pub fn into_block(self) -> BodyBlock
+        ensures { result ≡ record { bodies = self; rest = [] } }
     {
-        self.bodies
+        self.block
     }
 }
 

@@ -12,33 +12,37 @@
 //! is_whole()              true
 //! ```
 
-ghost use Rattle.std.specs.Prelude.{◌≡◌, ◌<◌, ◌≤◌, ◌+◌, ◌^◌, ◌++◌, ℕ, List, length, take, true, false, None, OnOk, OnErr};
+ghost use Rattle.std.specs.Prelude.{◌≡◌, ◌<◌, ◌≤◌, ◌+◌, ◌^◌, ◌++◌, ℕ, List, length, take, true, false, None, [], OnOk, OnErr};
 ghost use Rattle.body_cutter.specs.Sections.{bodies_from, Whole};
+ghost use Rattle.body_cutter.specs.Bodies.{no_bodies};
+ghost use Rattle.body_cutter.specs.Queues.{all_closed};
+ghost use Rattle.body_cutter.specs.Held.{last_of, queue_of};
 ghost use Rattle.body_cutter.specs.Cuttings.{left, handed, no_batch, is_whole, IsPrompt, Feeds, Ends, Takes};
 
-use crate::batch::Batch;
-use crate::queue::Queue;
+use crate::batch::{Batch, Bodies};
+use crate::block::BodyBlock;
+use crate::queue::Waiting;
 use crate::walk::Walk;
 use std::alloc::{AllocError, Global};
 use std::marker::Model;
+use std::mem::replace;
 use wasm_defs::{FrontStop, Kind, Refusal};
 
 /// Cuts a code section into bodies, after its count. Contracts see of it what it still hands over (`left`).
 #[derive(Drop)]
 pub struct Cutter {
     walk: Walk,
-    queue: Queue,
+    queue: Waiting,
 }
 
 impl Model for Cutter {
-    ghost use Rattle.std.specs.Prelude.{◌≡◌, []};
     ghost use Rattle.body_cutter.specs.Cuttings.{Cutting};
-    ghost use Rattle.body_cutter.specs.Walks.{position_of, IsSound};
-    ghost use Rattle.body_cutter.specs.Held.{IsHeld};
+    ghost use Rattle.body_cutter.specs.Walks.{position_of};
+    ghost use Rattle.body_cutter.specs.Held.{queue_of, IsHeld};
 
     ghost Value = { Cutting };
 
-    ghost view = { λ c. record { place = position_of c.walk; queue = c.queue } };
+    ghost view = { λ c. record { place = position_of c.walk; queue = queue_of c.walk c.queue } };
 
     ghost invariant = { λ c. IsHeld c.walk c.queue };
 }
@@ -63,8 +67,15 @@ impl Cutter {
         ensures end { result.place.end ≡ section_end }
     {
         Cutter {
-            walk: Walk::new(alloc, first_index + count, count, first_offset, section_end),
-            queue: Queue::new(alloc, batch_bytes),
+            walk: Walk::new(
+                alloc,
+                first_index + count,
+                count,
+                first_offset,
+                section_end,
+                batch_bytes,
+            ),
+            queue: Waiting::new(alloc),
         }
     }
 
@@ -102,13 +113,16 @@ impl Cutter {
         ensures err { OnErr result (self.new ≡ self.old) }
     {
         // Why: docs/DECISIONS.md, "Where memory runs out, the bytes of the body in hand are cut back"
+        if self.walk.is_over() {
+            return Ok(());
+        }
         let saved = self.walk.save();
-        if self.walk.run(piece).is_err() || self.queue.append(&mut self.walk.done).is_err() {
+        if self.walk.run(piece).is_err() || self.queue.append(&mut self.walk.closed).is_err() {
             self.walk.restore(saved);
             return Err(AllocError);
         }
         if self.walk.is_over() {
-            self.queue.close();
+            close_last(&mut self.walk, &mut self.queue);
         }
         Ok(())
     }
@@ -134,7 +148,7 @@ impl Cutter {
     pub fn take_batch(&mut self) -> Option<Batch>
         ensures { Takes self.old result self.new }
     {
-        self.queue.take()
+        self.queue.take(self.walk.least)
     }
 
     /// The bytes ended, or their source failed. It takes no memory.
@@ -156,9 +170,21 @@ impl Cutter {
             kind: Kind::Ended,
         };
         self.walk.stop = Some(refusal);
-        self.queue.close();
+        close_last(&mut self.walk, &mut self.queue);
         Err(FrontStop::Refused(refusal))
     }
+}
+
+/// Nothing is to come: the batch that is begun closes, without taking memory.
+fn close_last(walk: &mut Walk, queue: &mut Waiting)
+    requires { queue.old.last ≡ None }
+    ensures walk { walk.new ≡ record walk.old { block = no_bodies } }
+    ensures queue { queue_of walk.new queue.new ≡ all_closed (queue_of walk.old queue.old) }
+    ensures last { (last_of queue.new.last ≡ walk.old.block.bodies) × (walk.old.block.bodies ≡ [] → queue.new.last ≡ None) }
+    ensures kept { (queue.new.number ≡ queue.old.number) × (queue.new.closed ≡ queue.old.closed) }
+{
+    let block = replace(&mut walk.block, BodyBlock::new(walk.alloc));
+    queue.close(Bodies::new(block));
 }
 
 /// So many bytes, or all of them where there are fewer.

@@ -3,6 +3,7 @@
 #![tactic(auto)]
 
 mod batch;
+mod block;
 mod body;
 mod cutter;
 mod laws;
@@ -10,6 +11,7 @@ mod queue;
 mod walk;
 
 pub use batch::{Batch, Bodies};
-pub use body::{Body, BodyBytes};
+pub use block::BodyBlock;
+pub use body::BodyView;
 pub use cutter::Cutter;
 pub use laws::batches_join_to_the_bodies;

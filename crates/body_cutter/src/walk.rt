@@ -4,20 +4,24 @@
 //! in a size ---right---> in a body ---its last byte---> in a size, or at the section's end
 //! ```
 
-ghost use Rattle.std.specs.Prelude.{◌≡◌, ◌<◌, ◌≤◌, ◌+◌, ◌-◌, ◌^◌, ℕ, List, [], ◌∷◌, ◌++◌, length, take, drop, false, true, None, IsOk, OnOk, OnErr, IfOk};
+ghost use Rattle.std.specs.Prelude.{◌≡◌, ◌<◌, ◌≤◌, ◌+◌, ◌-◌, ◌^◌, ℕ, List, [], ◌∷◌, ◌++◌, length, false, true, None, All, OnOk, OnErr, IfOk};
 ghost use Rattle.std.specs.Prelude.{IfNone, pos, ◌≤ℤ◌, ◌<ℤ◌};
 ghost use Rattle.leb_feed.specs.Feeding.{IsUnfinished};
+ghost use Rattle.body_cutter.specs.Bodies.{Body, Block, mark_of, no_bodies};
 ghost use Rattle.body_cutter.specs.Sections.{size_fault, bodies_from};
-ghost use Rattle.body_cutter.specs.Walks.{given, index_of, first_bytes, is_over, IsSound, IsBetween, IsFull, Begins};
+ghost use Rattle.body_cutter.specs.Queues.{bodies_in, with_begun, AreFew, IsFull as IsFullBatch};
+ghost use Rattle.body_cutter.specs.Walks.{given, batches_of, after_batches, is_over, IsSound, IsBetween, IsFull, AreBatches, Starts};
 
-use crate::body::{Body, BodyBytes};
+use crate::batch::Bodies;
+use crate::block::BodyBlock;
+use crate::body::Mark;
 use leb_feed::{Fed, Leb};
 use std::alloc::{AllocError, Global};
 use std::collections::LinkedList;
 use std::mem::replace;
 use wasm_defs::{Kind, MAX_BODY, Refusal};
 
-/// Where reading is in the section, and the bodies that were completed on the way.
+/// Where reading is in the section, and the batches on the way.
 #[derive(Drop)]
 pub struct Walk {
     pub alloc: Global,
@@ -37,10 +41,12 @@ pub struct Walk {
     pub sized: bool,
     /// The size, if it is whole.
     pub len: u32,
-    /// The bytes of the body that came.
-    pub bytes: Vec<u8>,
-    /// The bodies that were completed.
-    pub done: LinkedList<Body>,
+    /// A batch closes where its bodies have so many bytes.
+    pub least: u32,
+    /// The bodies of the batch that is begun, and the bytes that came of the body in hand.
+    pub block: BodyBlock,
+    /// The batches that were closed on the way.
+    pub closed: LinkedList<Bodies>,
     /// The first error.
     pub stop: Option<Refusal>,
 }
@@ -84,7 +90,7 @@ pub struct Saved {
     leb: Leb,
     sized: bool,
     len: u32,
-    kept: usize,
+    mark: Mark,
 }
 
 impl Walk {
@@ -97,7 +103,7 @@ impl Walk {
           leb = self.now.leb;
           sized = self.now.sized;
           len = self.now.len;
-          kept = length self.now.bytes.items;
+          mark = mark_of self.now.block;
         } }
     {
         Saved {
@@ -107,16 +113,18 @@ impl Walk {
             leb: self.leb.fork(),
             sized: self.sized,
             len: self.len,
-            kept: self.bytes.len(),
+            mark: self.block.mark(),
         }
     }
 
-    /// Puts the walk back to a saved state, without copying bytes: those of the body in hand are the first ones that came.
+    /// Puts the walk back to a saved state, without copying bytes: the bodies and the bytes that there were are the first ones.
     pub fn restore(&mut self, saved: Saved)
+        requires { (block : Block) × (saved.mark ≡ mark_of block) × Starts block self.old }
         ensures place { (self.new.count ≡ saved.count) × (self.new.at ≡ saved.at) × (self.new.size_at ≡ saved.size_at) × (self.new.leb ≡ saved.leb)
             × (self.new.sized ≡ saved.sized) × (self.new.len ≡ saved.len) }
-        ensures bytes { self.new.bytes.items ≡ take saved.kept (first_bytes self.old.done self.old.bytes.items) }
-        ensures rest { (self.new.done ≡ []) × (self.new.stop ≡ None) × (self.new.behind ≡ self.old.behind) × (self.new.end ≡ self.old.end) }
+        ensures block { (block : Block) → saved.mark ≡ mark_of block → Starts block self.old → self.new.block ≡ block }
+        ensures rest { (self.new.closed ≡ []) × (self.new.stop ≡ None) × (self.new.behind ≡ self.old.behind) × (self.new.end ≡ self.old.end)
+            × (self.new.least ≡ self.old.least) }
     {
         let Saved {
             count,
@@ -125,7 +133,7 @@ impl Walk {
             leb,
             sized,
             len,
-            kept,
+            mark,
         } = saved;
         self.count = count;
         self.at = at;
@@ -134,11 +142,11 @@ impl Walk {
         self.sized = sized;
         self.len = len;
         self.stop = None;
-        if let Some(body) = self.done.pop_front() {
-            self.bytes = body.bytes.into_vec();
+        if let Some(first) = self.closed.pop_front() {
+            self.block = first.into_block();
         }
-        self.done.clear();
-        self.bytes.truncate(kept);
+        self.closed.clear();
+        self.block.cut_back(mark);
     }
 
     /// Whether no byte of the section can follow: it is whole, or has an error.
@@ -150,14 +158,16 @@ impl Walk {
     }
 
     /// Before the first of so many bodies, whose size has the offset `at`. The index of the function after the last body's
-    /// is `behind`.
-    pub fn new(alloc: Global, behind: u32, count: u32, at: u64, end: u64) -> Self
+    /// is `behind`. A batch closes where its bodies have `least` bytes.
+    pub fn new(alloc: Global, behind: u32, count: u32, at: u64, end: u64, least: u32) -> Self
         requires counted { count ≤ behind }
         requires inside { at ≤ end }
         requires fits { end < 2 ^ 60 }
-        ensures given { (more : List ℕ) → given result more ≡ bodies_from (behind - count) count (record { at = at; rest = more; end = end }) }
+        ensures given { (more : List ℕ) → given result more ≡ after_batches (batches_of result)
+            (bodies_from (behind - count) count (record { at = at; rest = more; end = end })) }
         ensures sound { IsSound result }
-        ensures place { (result.behind ≡ behind) × (result.count ≡ count) × (result.at ≡ at) × (result.end ≡ end) × (result.done ≡ []) }
+        ensures place { (result.behind ≡ behind) × (result.count ≡ count) × (result.at ≡ at) × (result.end ≡ end) }
+        ensures batches { (result.least ≡ least) × (result.closed ≡ []) × (result.block ≡ no_bodies) }
     {
         let mut walk = Walk {
             alloc,
@@ -169,8 +179,9 @@ impl Walk {
             leb: next_size(),
             sized: false,
             len: 0,
-            bytes: Vec::new(alloc),
-            done: LinkedList::new(alloc),
+            least,
+            block: BodyBlock::new(alloc),
+            closed: LinkedList::new(alloc),
             stop: None,
         };
         walk.settle();
@@ -186,8 +197,8 @@ impl Walk {
         ensures same { (more : List ℕ) → given self.old (byte ∷ more) ≡ given self.new more }
         ensures sound { IsSound self.new }
         ensures place { (self.new.end ≡ self.old.end) × (self.new.behind ≡ self.old.behind) }
-        ensures kept { (self.new.done ≡ self.old.done) × (self.new.count ≡ self.old.count) }
-        ensures bytes { self.new.bytes.items ≡ self.old.bytes.items }
+        ensures kept { (self.new.closed ≡ self.old.closed) × (self.new.block ≡ self.old.block) × (self.new.least ≡ self.old.least)
+            × (self.new.count ≡ self.old.count) }
         ensures taken { self.new.stop ≡ None → self.new.at ≡ self.old.at + 1 }
     {
         if self.count == 0 {
@@ -246,38 +257,51 @@ impl Walk {
         }
     }
 
-    /// The body in hand is complete. Where memory runs out, it stays in hand.
+    /// Closes the batch that is begun where it has enough bytes. No body is in hand.
+    fn close_full(&mut self) -> Result<(), AllocError>
+        requires { self.old.block.rest ≡ [] }
+        ensures ok { OnOk result (self.new ≡ record self.old { block = self.new.block; closed = self.new.closed }) }
+        ensures batches { OnOk result (batches_of self.new ≡ with_begun (batches_of self.old) self.old.block.bodies) }
+        ensures rest { OnOk result (self.new.block.rest ≡ []) }
+        ensures full { OnOk result ((before : List Body) (body : Body) → self.old.block.bodies ≡ before ++ body ∷ [] → AreFew self.old.least before
+            → All (IsFullBatch self.old.least) self.old.closed → AreBatches self.new) }
+        ensures err { OnErr result (self.new ≡ self.old) }
+        ensures starts { (saved : Block) → Starts saved self.old → Starts saved self.new }
+    {
+        if self.block.len() < self.least as usize {
+            return Ok(());
+        }
+        let block = replace(&mut self.block, BodyBlock::new(self.alloc));
+        match self.closed.push_back(Bodies::new(block)) {
+            Ok(()) => Ok(()),
+            Err(failed) => {
+                self.block = failed.value.into_block();
+                Err(AllocError)
+            }
+        }
+    }
+
+    /// The body in hand is complete. Where memory runs out, the bodies and the bytes that came before are still there.
     fn complete(&mut self) -> Result<(), AllocError>
         requires { IsFull self.old }
         ensures same { OnOk result ((more : List ℕ) → given self.old more ≡ given self.new more) }
         ensures sound { OnOk result (IsSound self.new) }
-        ensures given { OnOk result (self.new.done ≡ self.old.done ++ record
-            { index = index_of self.old; size = self.old.size_at; first = self.old.at - self.old.len; bytes = self.old.bytes.items } ∷ []) }
-        ensures place { (self.new.end ≡ self.old.end) × (self.new.at ≡ self.old.at) × (self.new.behind ≡ self.old.behind) }
-        ensures count { OnOk result (self.new.count + 1 ≡ self.old.count) }
-        ensures kept { OnErr result ((self.new.done ≡ self.old.done) × (self.new.bytes.items ≡ self.old.bytes.items)) }
+        ensures batches { OnOk result (AreBatches self.old → AreBatches self.new) }
+        ensures at { OnOk result (self.new.at ≡ self.old.at) }
+        ensures kept { (self.new.end ≡ self.old.end) × (self.new.behind ≡ self.old.behind) × (self.new.least ≡ self.old.least) }
+        ensures counts { OnOk result (length (bodies_in (batches_of self.new)) + self.new.count ≡ length (bodies_in (batches_of self.old)) + self.old.count) }
+        ensures starts { (saved : Block) → Starts saved self.old → Starts saved self.new }
     {
-        let bytes = replace(&mut self.bytes, Vec::new(self.alloc));
-        let body = Body {
-            index: self.behind - self.count,
-            size: self.size_at,
-            first: self.at - u64::from(self.len),
-            bytes: BodyBytes::new(bytes),
-        };
-        match self.done.push_back(body) {
-            Ok(()) => {
-                self.count -= 1;
-                self.sized = false;
-                self.size_at = self.at;
-                self.leb = next_size();
-                self.settle();
-                Ok(())
-            }
-            Err(failed) => {
-                self.bytes = failed.value.bytes.into_vec();
-                Err(AllocError)
-            }
-        }
+        let index = self.behind - self.count;
+        let first = self.at - u64::from(self.len);
+        self.block.complete(index, self.size_at, first)?;
+        self.close_full()?;
+        self.count -= 1;
+        self.sized = false;
+        self.size_at = self.at;
+        self.leb = next_size();
+        self.settle();
+        Ok(())
     }
 
     /// The next bytes of a body. Where memory runs out, the bytes that came before are still there.
@@ -285,17 +309,18 @@ impl Walk {
         requires sound { IsSound self.old }
         requires in_body { self.old.sized ≡ true }
         requires going { self.old.stop ≡ None }
-        requires fits { length self.old.bytes.items + length piece.now ≤ self.old.len }
+        requires fits { length self.old.block.rest + length piece.now ≤ self.old.len }
         ensures same { OnOk result ((more : List ℕ) → given self.old (piece.now ++ more) ≡ given self.new more) }
         ensures sound { OnOk result (IsSound self.new) }
-        ensures end { (self.new.end ≡ self.old.end) × (self.new.behind ≡ self.old.behind) }
-        ensures counts { OnOk result (length self.new.done + self.new.count ≡ length self.old.done + self.old.count) }
+        ensures batches { OnOk result (AreBatches self.old → AreBatches self.new) }
+        ensures kept { (self.new.end ≡ self.old.end) × (self.new.behind ≡ self.old.behind) × (self.new.least ≡ self.old.least) }
+        ensures counts { OnOk result (length (bodies_in (batches_of self.new)) + self.new.count ≡ length (bodies_in (batches_of self.old)) + self.old.count) }
         ensures at { OnOk result (self.new.at ≡ self.old.at + length piece.now) }
-        ensures begins { (before : List ℕ) → Begins before self.old → Begins before self.new }
+        ensures starts { (saved : Block) → Starts saved self.old → Starts saved self.new }
     {
-        self.bytes.extend_from_slice(piece)?;
+        self.block.extend(piece)?;
         self.at += piece.len() as u64;
-        if self.bytes.len() < self.len as usize {
+        if self.block.rest_len() < self.len as usize {
             return Ok(());
         }
         self.complete()
@@ -310,16 +335,17 @@ impl Walk {
         ensures same { IfOk result (λ rest. (more : List ℕ) → given self.old (bytes.now ++ more) ≡ given self.new (rest.now ++ more)) }
         ensures less { IfOk result (λ rest. length rest.now < length bytes.now) }
         ensures sound { OnOk result (IsSound self.new) }
-        ensures end { (self.new.end ≡ self.old.end) × (self.new.behind ≡ self.old.behind) }
-        ensures counts { OnOk result (length self.new.done + self.new.count ≡ length self.old.done + self.old.count) }
+        ensures batches { OnOk result (AreBatches self.old → AreBatches self.new) }
+        ensures kept { (self.new.end ≡ self.old.end) × (self.new.behind ≡ self.old.behind) × (self.new.least ≡ self.old.least) }
+        ensures counts { OnOk result (length (bodies_in (batches_of self.new)) + self.new.count ≡ length (bodies_in (batches_of self.old)) + self.old.count) }
         ensures at { IfOk result (λ rest. self.new.stop ≡ None → self.new.at + length rest.now ≡ self.old.at + length bytes.now) }
-        ensures begins { (before : List ℕ) → Begins before self.old → Begins before self.new }
+        ensures starts { (saved : Block) → Starts saved self.old → Starts saved self.new }
     {
         if !self.sized {
             self.size_byte(bytes[0]);
             return Ok(&bytes[1..]);
         }
-        let owed = self.len as usize - self.bytes.len();
+        let owed = self.len as usize - self.block.rest_len();
         let (front, rest) = bytes.split_at(owed.min(bytes.len()));
         self.body_bytes(front)?;
         Ok(rest)
@@ -332,10 +358,11 @@ impl Walk {
         requires inside { self.old.at + length bytes.now ≤ self.old.end }
         ensures same { OnOk result ((more : List ℕ) → given self.old (bytes.now ++ more) ≡ given self.new more) }
         ensures sound { OnOk result (IsSound self.new) }
-        ensures end { (self.new.end ≡ self.old.end) × (self.new.behind ≡ self.old.behind) }
-        ensures counts { OnOk result (length self.new.done + self.new.count ≡ length self.old.done + self.old.count) }
+        ensures batches { OnOk result (AreBatches self.old → AreBatches self.new) }
+        ensures kept { (self.new.end ≡ self.old.end) × (self.new.behind ≡ self.old.behind) × (self.new.least ≡ self.old.least) }
+        ensures counts { OnOk result (length (bodies_in (batches_of self.new)) + self.new.count ≡ length (bodies_in (batches_of self.old)) + self.old.count) }
         ensures at { OnOk result (self.new.stop ≡ None → self.new.at ≡ self.old.at + length bytes.now) }
-        ensures begins { (before : List ℕ) → Begins before self.old → Begins before self.new }
+        ensures starts { (saved : Block) → Starts saved self.old → Starts saved self.new }
     {
         let mut rest = bytes;
         while !rest.is_empty() && self.stop.is_none() {

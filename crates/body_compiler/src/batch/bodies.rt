@@ -1,6 +1,8 @@
 //! Compiles the bodies of a batch.
 ghost use Rattle.std.specs.Prelude.{◌≡◌, ◌+◌, ◌<◌, ◌≤◌, ◌^◌, All, IfOk, IsSome, length};
 ghost use Rattle.std.specs.Arc.{arc_value};
+ghost use Rattle.wasm_defs.specs.Limits.{max_body};
+ghost use Rattle.body_cutter.specs.Bodies.{body_of};
 ghost use Rattle.body_compiler.specs.LowBatches.{IsLow, IsLowBody};
 ghost use Rattle.body_compiler.specs.BatchRows.{IsMade, IsRow, IsRowOf, IsRoomFor, FitsBody, Stores};
 
@@ -11,12 +13,11 @@ use crate::fitting::fitted;
 use crate::longest::may_be_longer;
 use crate::measuring::measure;
 use crate::scratch::Scratch;
-use body_cutter::{Batch, Body};
+use body_cutter::{Batch, Bodies, BodyView};
 use index_spaces::Context;
 use result_cells::{Cells, Put, Reservation, Shortage};
 use rv_isa::Code;
 use std::alloc::{AllocError, Global};
-use std::collections::LinkedList;
 use std::sync::Arc;
 use wasm_defs::Refusal;
 
@@ -77,20 +78,15 @@ fn make_code<'a>(
     scratch: &mut Scratch<'a>,
     cells: &Cells,
     context: &'a Context,
-    body: &Body,
+    body: BodyView<'_>,
 ) -> Result<Made, AllocError>
-    requires fits { FitsBody context.now body.now }
-    requires low { IsLowBody body.now }
-    requires cell { body.now.index < length cells.now.names }
-    ensures { IfOk result (IsMade context.now cells.now body.now) }
+    requires fits { FitsBody context.now (body_of body) }
+    requires low { IsLowBody (body_of body) }
+    requires small { length body.bytes.now ≤ max_body }
+    requires cell { body.index < length cells.now.names }
+    ensures { IfOk result (IsMade context.now cells.now (body_of body.entry)) }
 {
-    let stored = match compile(
-        scratch,
-        context,
-        body.index,
-        body.bytes.as_slice(),
-        body.first,
-    ) {
+    let stored = match compile(scratch, context, body.index, body.bytes, body.first) {
         Ok(code) => store(scratch.alloc, cells, body.index, code)?,
         Err(BodyStop::TooLong) => too_long(cells),
         Err(BodyStop::Refused(refusal)) => return Ok(Made::Faulty(refusal)),
@@ -108,19 +104,14 @@ fn count_body<'a>(
     scratch: &mut Scratch<'a>,
     cells: &Cells,
     context: &'a Context,
-    body: &Body,
+    body: BodyView<'_>,
 ) -> Result<Made, AllocError>
-    requires fits { FitsBody context.now body.now }
-    requires low { IsLowBody body.now }
-    ensures { IfOk result (IsMade context.now cells.now body.now) }
+    requires fits { FitsBody context.now (body_of body) }
+    requires low { IsLowBody (body_of body) }
+    requires small { length body.bytes.now ≤ max_body }
+    ensures { IfOk result (IsMade context.now cells.now (body_of body.entry)) }
 {
-    let stored = match measure(
-        scratch,
-        context,
-        body.index,
-        body.bytes.as_slice(),
-        body.first,
-    ) {
+    let stored = match measure(scratch, context, body.index, body.bytes, body.first) {
         Ok(words) => {
             if body.index < cells.count() && words <= MAX_DRAFT {
                 return make_code(scratch, cells, context, body);
@@ -144,11 +135,12 @@ fn compile_body<'a>(
     scratch: &mut Scratch<'a>,
     cells: &Cells,
     context: &'a Context,
-    body: &Body,
+    body: BodyView<'_>,
 ) -> Result<Made, AllocError>
-    requires fits { FitsBody context.now body.now }
-    requires low { IsLowBody body.now }
-    ensures { IfOk result (IsMade context.now cells.now body.now) }
+    requires fits { FitsBody context.now (body_of body) }
+    requires low { IsLowBody (body_of body) }
+    requires small { length body.bytes.now ≤ max_body }
+    ensures { IfOk result (IsMade context.now cells.now (body_of body.entry)) }
 {
     // Why: docs/DECISIONS.md, "Cells have room for as many words as a text"
     if let Some(short) = cells.exhausted() {
@@ -167,7 +159,7 @@ fn compile_bodies(
     alloc: Global,
     cells: &Cells,
     context: &Context,
-    bodies: &LinkedList<Body>,
+    bodies: &Bodies,
 ) -> Result<(Vec<RowCode>, Option<Refusal>, Option<Shortage>), AllocError>
     requires fits { All (FitsBody context.now) bodies.now }
     requires low { All IsLowBody bodies.now }
@@ -175,7 +167,8 @@ fn compile_bodies(
 {
     let mut codes = Vec::new(alloc);
     let mut scratch = Scratch::new(alloc, context);
-    for body in bodies.iter() {
+    for index in 0..bodies.count() {
+        let body = bodies.get(index);
         match compile_body(&mut scratch, cells, context, body)? {
             Made::Coded(code) => codes.push(code)?,
             Made::Faulty(refusal) => return Ok((codes, Some(refusal), None)),
@@ -197,7 +190,7 @@ pub fn compile_batch(
     ensures row { IfOk result (IsRowOf context.now cells.now) }
     ensures batch { IfOk result (λ row. arc_value row.batch ≡ arc_value batch) }
 {
-    let (codes, fault, cut) = compile_bodies(alloc, cells, context, batch.bodies.as_list())?;
+    let (codes, fault, cut) = compile_bodies(alloc, cells, context, &batch.bodies)?;
     Ok(Row {
         batch,
         codes: RowCodes::new(codes),

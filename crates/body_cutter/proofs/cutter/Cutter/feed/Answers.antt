@@ -2,6 +2,7 @@ use Rattle.std.proofs.Common.{◌≡◌, ℕ, zero, suc, ◌+◌, ◌-◌, Optio
 use Rattle.body_cutter.specs.Sections.{Faulty}
 use Rattle.wasm_defs.specs.declared.fault.Refusal.{Refusal}
 use Rattle.body_cutter.specs.Cuttings.{Cutting, left, IsPrompt}
+use Rattle.body_cutter.specs.Held.{queue_of}
 use Rattle.body_cutter.proofs.Cuts.{handed_of, refused_left}
 use Rattle.body_cutter.proofs.cutter.Cutter.feed.Goals as goal
 
@@ -12,7 +13,7 @@ returns-in-Some c =
     record {
       same = λ more.
           ap (λ (k : Cutting). left k (c.args.bytes.now ++ more)) (sym c.self.view_is)
-          ∙ refused_left i.walk i.queue c.in-Some.refusal (c.args.bytes.now ++ more) c.in-Some.is c.self.invariant.prompt
+          ∙ refused_left i.walk (queue_of i.walk i.queue) c.in-Some.refusal (c.args.bytes.now ++ more) c.in-Some.is c.self.invariant.prompt
           ∙ ap (λ (k : Cutting). handed_of k.queue (Faulty c.in-Some.refusal)) c.self.view_is;
       stays = sym (ap (λ (k : Cutting). k.place.stop) c.self.view_is) ∙ c.in-Some.is;
       again = λ e. refl;
@@ -50,7 +51,7 @@ returns-in-Some-stop c =
           ap (left old) (split (c.self.inside.walk.end - c.self.inside.walk.at) taken bytes more c.first_of-taken.ensures)
           ∙ ok rest
           ∙ ap (λ (k : Cutting). left k rest) (sym c.self-2.view_is)
-          ∙ refused_left i.walk i.queue r rest c.in-Some-stop.is c.self-2.invariant.prompt
+          ∙ refused_left i.walk (queue_of i.walk i.queue) r rest c.in-Some-stop.is c.self-2.invariant.prompt
           ∙ ap (λ (k : Cutting). handed_of k.queue (Faulty r)) c.self-2.view_is;
       stays = sym (ap (λ (k : Cutting). k.place.stop) c.self-2.view_is) ∙ c.in-Some-stop.is;
       again = λ e. absurd (differs old.place.stop r none e);
