@@ -17,6 +17,7 @@
 ghost use Rattle.std.specs.Prelude.{true, ℕ, ◌≡◌, ◌<◌, ◌^◌, ◌↔◌, ◌++◌, ◌∷◌, [], All, IsTrue, IfOk, IfSome, OnOk, OnErr, length};
 ghost use Rattle.std.specs.Arc.{arc_value};
 ghost use Rattle.cancel_drain.specs.Views.{times};
+ghost use Rattle.body_cutter.specs.Bodies.{body_of};
 ghost use Rattle.body_compiler.specs.LowBatches.{IsLow};
 ghost use Rattle.body_compiler.specs.BatchRows.{IsRowOf, FitsBody};
 ghost use Rattle.batch_pool.specs.Working.{Fits, Grows, IsServed, AddsRowOf};
@@ -25,12 +26,11 @@ ghost use Rattle.batch_pool.specs.Serving.{Tries, Runs, told};
 use crate::batch_compiler::BatchCompiler;
 use crate::ticket::Ticket;
 use body_compiler::{Row, compile_batch};
-use body_cutter::{Batch, Body};
+use body_cutter::{Batch, Bodies, BodyView};
 use cancel_drain::{Board, BoardSeat, Claim, Drained};
 use index_spaces::Context;
 use io_edges::{Gate, Go};
 use std::alloc::{AllocError, Global};
-use std::collections::LinkedList;
 use std::sync::Arc;
 use std::thread;
 use wasm_defs::Refusal;
@@ -39,17 +39,18 @@ use wasm_defs::Refusal;
 const LAST_TURN: u32 = 1_048_576;
 
 /// Whether the function of a body is in the context.
-fn fits_body(context: &Context, body: &Body) -> bool
-    ensures { IsTrue result ↔ FitsBody context.now body.now }
+fn fits_body(context: &Context, body: BodyView<'_>) -> bool
+    ensures { IsTrue result ↔ FitsBody context.now (body_of body.entry) }
 {
     context.has_type_of_function(body.index)
 }
 
 /// Whether all bodies fit.
-fn fit_all(context: &Context, bodies: &LinkedList<Body>) -> bool
+fn fit_all(context: &Context, bodies: &Bodies) -> bool
     ensures { IsTrue result ↔ All (FitsBody context.now) bodies.now }
 {
-    for body in bodies.iter() {
+    for index in 0..bodies.count() {
+        let body = bodies.get(index);
         if !fits_body(context, body) {
             return false;
         }
@@ -61,7 +62,7 @@ fn fit_all(context: &Context, bodies: &LinkedList<Body>) -> bool
 pub fn fits(board: &Board, context: &Context, ticket: &Ticket) -> bool
     ensures { IsTrue result ↔ Fits context.now board.now.functions ticket.now }
 {
-    ticket.number < board.functions() && fit_all(context, ticket.batch.bodies.as_list())
+    ticket.number < board.functions() && fit_all(context, &ticket.batch.bodies)
 }
 
 /// Asks the gate until the batch may run.

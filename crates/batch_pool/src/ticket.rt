@@ -1,11 +1,12 @@
 //! What the queues carry.
-ghost use Rattle.std.specs.Prelude.{◌≡◌, ◌↔◌, All, IsTrue, IfSome, IfNone};
+ghost use Rattle.std.specs.Prelude.{◌≡◌, ◌↔◌, ◌≤◌, All, IsTrue, IfSome, IfNone, length};
 ghost use Rattle.std.specs.Arc.{arc_value};
+ghost use Rattle.wasm_defs.specs.Limits.{max_body};
+ghost use Rattle.body_cutter.specs.Bodies.{body_of};
 ghost use Rattle.body_compiler.specs.LowBatches.{IsLow, IsLowBody};
 
-use body_cutter::{Batch, Body};
+use body_cutter::{Batch, Bodies, BodyView};
 use std::alloc::Global;
-use std::collections::LinkedList;
 use std::sync::Arc;
 
 // The offsets in a ticket's batch are below this.
@@ -28,17 +29,19 @@ pub struct Ticket {
 }
 
 // Whether a body has bytes, and its size and its end are below 2^60.
-fn is_low_body(body: &Body) -> bool
-    ensures { IsTrue result ↔ IsLowBody body.now }
+fn is_low_body(body: BodyView<'_>) -> bool
+    requires { length body.bytes.now ≤ max_body }
+    ensures { IsTrue result ↔ IsLowBody (body_of body.entry) }
 {
-    let len = body.bytes.as_slice().len() as u64;
+    let len = body.bytes.len() as u64;
     body.size < FAR && 0 < len && body.first < FAR && body.first + len < FAR
 }
 
-fn are_low(bodies: &LinkedList<Body>) -> bool
+fn are_low(bodies: &Bodies) -> bool
     ensures { IsTrue result ↔ All IsLowBody bodies.now }
 {
-    for body in bodies.iter() {
+    for index in 0..bodies.count() {
+        let body = bodies.get(index);
         if !is_low_body(body) {
             return false;
         }
@@ -54,7 +57,7 @@ impl Ticket {
         ensures none { IfNone result (¬ IsLow (arc_value batch)) }
     {
         // Why: docs/DECISIONS.md, "Tickets are made of batches whose offsets are below 2^60 and whose bodies have bytes"
-        if batch.start < FAR && are_low(batch.bodies.as_list()) {
+        if batch.start < FAR && are_low(&batch.bodies) {
             Some(Ticket::new(module, batch))
         } else {
             None

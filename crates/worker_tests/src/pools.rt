@@ -1,8 +1,7 @@
 //! Tickets that go through a pool, taken by one hand and by several.
 use batch_pool::{Feeder, Hand, Pool, Ticket};
-use body_cutter::{Batch, Bodies};
+use body_cutter::{Batch, Bodies, BodyBlock};
 use std::alloc::{AllocError, Global};
-use std::collections::LinkedList;
 use std::sync::atomic::AtomicU64;
 use std::sync::atomic::Ordering::SeqCst;
 use std::sync::{Arc, Wait};
@@ -17,7 +16,7 @@ fn put(alloc: Global, feeder: &mut Feeder, number: u32) -> Result<bool, AllocErr
         Batch {
             number,
             start: 7,
-            bodies: Bodies::new(LinkedList::new(alloc)),
+            bodies: Bodies::new(BodyBlock::new(alloc)),
         },
     )?;
     Ok(match Ticket::of(0, batch) {

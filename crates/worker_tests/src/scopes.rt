@@ -4,13 +4,12 @@ ghost use Rattle.batch_pool.specs.Desks.{IsDesk, IsIdle};
 
 use batch_pool::{BatchCompiler, Desk, Feeder, Pool, Reading, by_number, run_beside, settle};
 use body_compiler::Row;
-use body_cutter::{Batch, Bodies, Body, BodyBytes};
+use body_cutter::{Batch, Bodies, BodyBlock};
 use cancel_drain::{Board, Closed};
 use index_spaces::{AddStop, Context, ContextBuilder};
 use io_edges::OpenGate;
 use result_cells::Cells;
 use std::alloc::{AllocError, Global};
-use std::collections::LinkedList;
 use std::sync::{Arc, Wait};
 use std::test::Fail;
 use std::thread::Threads;
@@ -26,17 +25,13 @@ fn batch(alloc: Global, number: u32) -> Result<Batch, AllocError> {
     } else {
         &[0x00, 0x41, 0x07, 0x0B]
     };
-    let mut bodies = LinkedList::new(alloc);
-    bodies.push_back(Body {
-        index: 0,
-        size: start,
-        first: start + 1,
-        bytes: BodyBytes::new(Vec::from_slice(alloc, bytes)?),
-    })?;
+    let mut block = BodyBlock::new(alloc);
+    block.extend(bytes)?;
+    block.complete(0, start, start + 1)?;
     Ok(Batch {
         number,
         start,
-        bodies: Bodies::new(bodies),
+        bodies: Bodies::new(block),
     })
 }
 

@@ -6,13 +6,12 @@ use batch_pool::{
     BatchCompiler, Feeder, Hand, Lane, LaneSeat, Pool, Ticket, Worked, work, work_many,
 };
 use body_compiler::{Row, Stored};
-use body_cutter::{Batch, Bodies, Body, BodyBytes};
+use body_cutter::{Batch, Bodies, BodyBlock};
 use cancel_drain::{Board, Closed};
 use index_spaces::{Context, ContextBuilder};
 use io_edges::{Gate, OpenGate};
 use result_cells::Cells;
 use std::alloc::{AllocError, Global};
-use std::collections::LinkedList;
 use std::sync::{Arc, Wait};
 use std::test::Fail;
 use std::thread;
@@ -27,21 +26,17 @@ fn batch(
     start: u64,
     bytes: &[u8],
 ) -> Result<Arc<Batch, Global>, AllocError> {
-    let mut bodies = LinkedList::new(alloc);
+    let mut block = BodyBlock::new(alloc);
     if bytes.len() < 100 && start < 1000 {
-        bodies.push_back(Body {
-            index: number,
-            size: start,
-            first: start + 1,
-            bytes: BodyBytes::new(Vec::from_slice(alloc, bytes)?),
-        })?;
+        block.extend(bytes)?;
+        block.complete(number, start, start + 1)?;
     }
     Ok(Arc::new(
         alloc,
         Batch {
             number,
             start,
-            bodies: Bodies::new(bodies),
+            bodies: Bodies::new(block),
         },
     )?)
 }
