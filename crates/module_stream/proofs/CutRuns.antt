@@ -12,7 +12,7 @@ use Rattle.wasm_laws.proofs.RowLaws.{end_steady}
 use Rattle.wasm_laws.proofs.Sorts.{IsBody, body_yields}
 use Rattle.section_reader.specs.Onward.{after_parts}
 use Rattle.section_reader.proofs.Telling.{after_append}
-use Rattle.body_cutter.specs.declared.body.Body.{Body}
+use Rattle.body_cutter.specs.Bodies.{Body}
 use Rattle.body_cutter.specs.Sections.{Whole, Given, goes_on, with_part, bodies_from}
 use Rattle.body_cutter.specs.Sections as cut
 use Rattle.body_cutter.specs.Cuttings.{handed, no_batch}

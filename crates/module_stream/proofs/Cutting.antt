@@ -9,7 +9,7 @@ use Rattle.wasm_defs.specs.Entries.{Seen}
 use Rattle.wasm_defs.specs.Outside.{Run, ends, sections, no_end}
 use Rattle.wasm_defs.specs.Outside as outside
 use Rattle.section_reader.specs.Onward.{after_parts}
-use Rattle.body_cutter.specs.declared.body.Body.{Body}
+use Rattle.body_cutter.specs.Bodies.{Body}
 use Rattle.body_cutter.specs.Sections.{End, Whole, Faulty, Owed}
 use Rattle.body_cutter.specs.Places.{Place, still}
 use Rattle.body_cutter.specs.declared.batch.Batch.{Batch}

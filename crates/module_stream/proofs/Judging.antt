@@ -22,7 +22,7 @@ use Rattle.wasm_laws.proofs.Few.{parts_are_few}
 use Rattle.wasm_laws.proofs.Verdicts.{some_once, code_fault_once, code_fault_inside}
 use Rattle.index_spaces.specs.Spaces.{Spaces, spaces_of, with_item, context_in}
 use Rattle.section_reader.specs.Onward.{after_parts}
-use Rattle.body_cutter.specs.declared.body.Body.{Body as GivenBody}
+use Rattle.body_cutter.specs.Bodies.{Body as GivenBody}
 use Rattle.module_stream.specs.CutBodies.{coded_all}
 use Rattle.module_stream.specs.Progress.{IsJudged, body_of_spaces}
 use Rattle.index_spaces.proofs.SpaceLaws.{spaces_of-append}

@@ -10,7 +10,7 @@ use Rattle.index_spaces.specs.Spaces.{Spaces}
 use Rattle.section_reader.specs.declared.front.Front.{Front}
 use Rattle.section_reader.specs.FrontLeft.{can_skip}
 use Rattle.section_reader.specs.Onward.{after_parts}
-use Rattle.body_cutter.specs.declared.body.Body.{Body}
+use Rattle.body_cutter.specs.Bodies.{Body}
 use Rattle.body_cutter.specs.Places.{Place}
 use Rattle.body_cutter.specs.Cuttings.{Cutting, Handed, left, IsFed, IsRefused}
 use Rattle.image_linker.specs.Judging.{IsVerdictOf}

@@ -1,10 +1,10 @@
 -- The batch that is begun: its bodies close no batch.
 use Rattle.std.proofs.Common.{◌≡◌, ℕ, inl, inr, leb, List, [], ◌∷◌, ◌++◌, refl, sym, ap, subst, ◌∙◌, arith}
 use Rattle.std.proofs.lemmas.Bool.{cases_Bool, leb-false}
-use Rattle.body_cutter.specs.declared.body.Body.{Body}
+use Rattle.body_cutter.specs.Bodies.{Body, bytes_of}
 use Rattle.body_cutter.specs.Sections.{End, Whole, Faulty, Owed, Given, bodies_from}
 use Rattle.body_cutter.specs.Places.{Place, still}
-use Rattle.body_cutter.specs.Queues.{Queue, with_begun, with_body, with_bodies, bytes_of}
+use Rattle.body_cutter.specs.Queues.{Queue, with_begun, with_body, with_bodies}
 use Rattle.body_cutter.specs.Cuttings.{Cutting, Handed, finished, handed, left, no_batch}
 use Rattle.module_stream.specs.Streaming.{AreOpen}
 

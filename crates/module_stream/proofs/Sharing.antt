@@ -16,7 +16,7 @@ use Rattle.rv_isa.specs.declared.compiled.Code.{Code}
 use Rattle.index_spaces.specs.Spaces.{Spaces, context_in}
 use Rattle.result_cells.specs.Rooms.{Store, Short}
 use Rattle.body_cutter.specs.declared.batch.Batch.{Batch}
-use Rattle.body_cutter.specs.declared.body.Body.{Body}
+use Rattle.body_cutter.specs.Bodies.{Body}
 use Rattle.body_cutter.specs.Cuttings.{Cutting, Takes}
 use Rattle.body_compiler.specs.Compiling.{Compiles}
 use Rattle.image_linker.specs.ImageOf.{front_of}

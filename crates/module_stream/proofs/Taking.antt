@@ -1,7 +1,7 @@
 -- What taking a part comes to.
-use Rattle.std.proofs.Common.{◌≡◌, ◌<◌, ◌≤◌, ◌+◌, ◌*◌, inl, inr, ℕ, Bool, List, [], ◌∷◌, ◌++◌, length, Result, Ok, Err, refl, sym, ap, ◌∙◌, subst, arith}
+use Rattle.std.proofs.Common.{◌≡◌, ◌<◌, ◌≤◌, ◌+◌, ◌*◌, inl, inr, ℕ, Bool, List, [], ◌∷◌, ◌++◌, drop, length, Result, Ok, Err, refl, sym, ap, ◌∙◌, subst, arith}
 use Rattle.std.specs.Prelude.{is_some}
-use Rattle.std.proofs.lemmas.List.{length-map}
+use Rattle.std.proofs.lemmas.List.{length-map, drop_more}
 use Rattle.rv_isa.specs.Words.{word_of}
 use Rattle.rv_isa.specs.declared.compiled.Code.{Code}
 use Rattle.wasm_defs.specs.declared.item.Item.{Item}
@@ -26,7 +26,7 @@ use Rattle.body_compiler.specs.declared.code.BodyStop.TheVariants as body
 use Rattle.wasm_defs.specs.Instances.{first_minimum, rows_of, origin_of}
 use Rattle.body_compiler.specs.Unlinked.{IsUnlinked}
 use Rattle.body_compiler.specs.Compiling.{Compiles, IsFunctionCode}
-use Rattle.body_cutter.specs.declared.body.Body.{Body as GivenBody}
+use Rattle.body_cutter.specs.Bodies.{Body as GivenBody, body_at, no_body}
 use Rattle.wasm_defs.specs.declared.front_stop.FrontStop.{FrontStop}
 use Rattle.wasm_defs.specs.declared.front_stop.FrontStop.TheVariants.{Refused, NoMemory}
 use Rattle.image_linker.specs.ImageOf.{around, front_of, front_size}
@@ -39,6 +39,11 @@ use Rattle.module_stream.specs.Codes.{Coding}
 use Rattle.module_stream.specs.Progress.{IsJudged, IsJudging, CanTakeNext, TakesPart, TakesBody, TakesCode, stop_at, body_of_spaces}
 use Rattle.module_stream.proofs.Judging.{told_there, typed_there, few_functions, few_bodies, few_imports}
 use Rattle.module_stream.proofs.Compiled.{after_body, text_passes, body_refused}
+
+-- ---- bodies that are left from an index on
+
+pub next_left : (bodies : List GivenBody) (i : ℕ) (b : GivenBody) → i < length bodies → b ≡ body_at bodies i → drop i bodies ≡ b ∷ drop (i + 1) bodies
+next_left bodies i b lt is = drop_more bodies i no_body lt ∙ ap (λ (x : GivenBody). x ∷ drop (i + 1) bodies) (sym is)
 
 -- ---- a body
 

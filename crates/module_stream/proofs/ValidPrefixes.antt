@@ -22,8 +22,8 @@ use Rattle.section_reader.specs.FrontOnward.{EndsOnward}
 use Rattle.section_reader.specs.Onward.{after_parts, AreSections}
 use Rattle.section_reader.proofs.OnwardSilence.{refused_ends, kept_ends, silent_ends}
 use Rattle.body_cutter.specs.Sections.{End, Whole as AllCut, Faulty, Owed as BytesOwed}
-use Rattle.body_cutter.specs.declared.body.Body.{Body}
-use Rattle.body_cutter.specs.Queues.{Queue, bodies_in, bytes_of}
+use Rattle.body_cutter.specs.Bodies.{Body, bytes_of}
+use Rattle.body_cutter.specs.Queues.{Queue, bodies_in}
 use Rattle.body_cutter.specs.Cuttings.{Cutting, left}
 use Rattle.module_stream.specs.declared.compilation.Compilation.{Compilation}
 use Rattle.module_stream.specs.CutBodies.{counts_data, coded_all, behind, sections_behind}

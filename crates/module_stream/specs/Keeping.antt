@@ -3,7 +3,7 @@ use Rattle.std.specs.Prelude.{ℕ, List, ◌++◌}
 use Rattle.wasm_defs.specs.declared.fault.Refusal.{Refusal}
 use Rattle.wasm_defs.specs.Outside.{Refused, ends}
 use Rattle.section_reader.specs.Onward.{after_parts}
-use Rattle.body_cutter.specs.declared.body.Body.{Body}
+use Rattle.body_cutter.specs.Bodies.{Body}
 use Rattle.body_cutter.specs.Cuttings.{Cutting}
 use Rattle.module_stream.specs.declared.compilation.Compilation.{Compilation}
 use Rattle.module_stream.specs.CutBodies.{counts_data, coded_all}

@@ -6,7 +6,7 @@ use Rattle.std.specs.declared.sync.Arc.{Arc}
 use Rattle.index_spaces.specs.Spaces.{Spaces}
 use Rattle.result_cells.specs.Rooms.{Store}
 use Rattle.body_cutter.specs.declared.batch.Batch.{Batch}
-use Rattle.body_cutter.specs.declared.body.Body.{Body}
+use Rattle.body_cutter.specs.Bodies.{Body}
 use Rattle.body_compiler.specs.declared.batch.row.RowCode.{RowCode}
 use Rattle.body_compiler.specs.BatchRows.{IsCodeFor}
 

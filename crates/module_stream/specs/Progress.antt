@@ -12,7 +12,7 @@ use Rattle.wasm_defs.specs.Outside.{Part, Section, Listed, Coded, Body, Run, mod
 use Rattle.wasm_defs.specs.Faults.{items_of, bodies_of, read_of, AreValid, Rejected}
 use Rattle.index_spaces.specs.Spaces.{Spaces, spaces_of, context_in}
 use Rattle.section_reader.specs.Onward.{after_parts}
-use Rattle.body_cutter.specs.declared.body.Body.{Body as GivenBody}
+use Rattle.body_cutter.specs.Bodies.{Body as GivenBody}
 use Rattle.wasm_defs.specs.declared.front_stop.FrontStop.{FrontStop}
 use Rattle.wasm_defs.specs.declared.front_stop.FrontStop.TheVariants.{Refused, NoMemory}
 use Rattle.body_compiler.specs.declared.code.BodyStop.{BodyStop}

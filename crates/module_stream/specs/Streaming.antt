@@ -12,8 +12,7 @@ use Rattle.section_reader.specs.declared.front.Front.{Front}
 use Rattle.section_reader.specs.Stages.{is_at_bodies}
 use Rattle.section_reader.specs.FrontLeft.{total, can_skip}
 use Rattle.section_reader.specs.FrontOnward.{remaining_parts, Follows}
-use Rattle.body_cutter.specs.declared.body.Body.{Body}
-use Rattle.body_cutter.specs.Queues.{bytes_of}
+use Rattle.body_cutter.specs.Bodies.{Body, bytes_of}
 use Rattle.body_cutter.specs.Cuttings.{Cutting, left, is_whole}
 use Rattle.image_linker.specs.Judging.{IsVerdictOf}
 use Rattle.module_stream.specs.Limits.{max_read}

@@ -6,8 +6,7 @@ use Rattle.wasm_defs.specs.Outside.{Part, Ending, Refused, Owed, module_read}
 use Rattle.wasm_defs.specs.Context.{data_count_of}
 use Rattle.wasm_defs.specs.Faults.{items_of, AreValid}
 use Rattle.image_linker.specs.Judging.{IsTextFault}
-use Rattle.body_cutter.specs.declared.body.Body.{Body}
-use Rattle.body_cutter.specs.Queues.{bytes_of}
+use Rattle.body_cutter.specs.Bodies.{Body, bytes_of}
 use Rattle.module_stream.specs.CutBodies.{coded_all}
 
 -- How many bytes of bodies close a batch, where each batch is validated before more bytes are read; or, with workers, none is given.

@@ -4,6 +4,7 @@ ghost use Rattle.std.specs.Prelude.{◌≡◌, ◌≤◌, ◌<◌, ◌+◌, ◌*
 ghost use Rattle.rv_isa.specs.declared.compiled.Code.{Code as GivenCode};
 ghost use Rattle.wasm_defs.specs.Outside.{Run as RunGiven};
 ghost use Rattle.section_reader.specs.Onward.{after_parts};
+ghost use Rattle.body_cutter.specs.Bodies.{body_of};
 ghost use Rattle.image_linker.specs.Judging.{limit_at};
 ghost use Rattle.module_stream.specs.Codes.{KeepsAlike};
 ghost use Rattle.module_stream.specs.CutBodies.{coded_all};
@@ -12,7 +13,7 @@ ghost use Rattle.module_stream.specs.Limits.{max_read};
 
 use crate::codes::Codes;
 use body_compiler::{BodyStop, Scratch, compile, may_be_longer, measure};
-use body_cutter::{Batch, Body, Cutter};
+use body_cutter::{Batch, BodyView, Cutter};
 use image_linker::passes_limit;
 use index_spaces::ContextBuilder;
 use rv_isa::Code;
@@ -20,8 +21,8 @@ use std::alloc::Global;
 use wasm_defs::{FrontStop, Kind, MAX_TEXT, Refusal};
 
 /// The error of a body with whose instruction words the text passes its limit.
-pub fn limit_at(body: &Body) -> Refusal
-    ensures { result ≡ limit_at body.now.size }
+pub fn limit_at(body: BodyView<'_>) -> Refusal
+    ensures { result ≡ limit_at body.entry.size }
 {
     Refusal {
         offset: body.size,
@@ -30,8 +31,8 @@ pub fn limit_at(body: &Body) -> Refusal
 }
 
 /// Why nothing is taken after a body that isn't compiled.
-fn stop_at(body: &Body, stop: BodyStop) -> FrontStop
-    ensures { result ≡ stop_at body.now stop }
+fn stop_at(body: BodyView<'_>, stop: BodyStop) -> FrontStop
+    ensures { result ≡ stop_at (body_of body.entry) stop }
 {
     match stop {
         BodyStop::Refused(refusal) => FrontStop::Refused(refusal),
@@ -45,14 +46,14 @@ fn take_body<'a>(
     scratch: &mut Scratch<'a>,
     spaces: &'a ContextBuilder,
     bodies: u32,
-    body: &Body,
+    body: BodyView<'_>,
 ) -> Result<Code, BodyStop>
-    requires { CanTake spaces.now bodies body.now }
-    ensures { TakesBody spaces.now bodies body.now result }
+    requires { CanTake spaces.now bodies (body_of body) }
+    ensures { TakesBody spaces.now bodies (body_of body.entry) result }
 {
     let context = spaces.context();
     let index = context.imported() + bodies;
-    compile(scratch, context, index, body.bytes.as_slice(), body.first)
+    compile(scratch, context, index, body.bytes, body.first)
 }
 
 /// Counts the instruction words of a body's code, before which so many bodies come.
@@ -60,25 +61,25 @@ fn measure_body<'a>(
     scratch: &mut Scratch<'a>,
     spaces: &'a ContextBuilder,
     bodies: u32,
-    body: &Body,
+    body: BodyView<'_>,
 ) -> Result<u64, BodyStop>
-    requires { CanTake spaces.now bodies body.now }
-    ensures { CountsBody spaces.now bodies body.now result }
+    requires { CanTake spaces.now bodies (body_of body) }
+    ensures { CountsBody spaces.now bodies (body_of body.entry) result }
 {
     let context = spaces.context();
     let index = context.imported() + bodies;
-    measure(scratch, context, index, body.bytes.as_slice(), body.first)
+    measure(scratch, context, index, body.bytes, body.first)
 }
 
 /// Whether a code of so many instruction words can follow these codes.
 fn keep_limit(
     spaces: &ContextBuilder,
     codes: &Codes,
-    body: &Body,
+    body: BodyView<'_>,
     more: u64,
 ) -> Result<(), FrontStop>
     requires few { length spaces.now.functions < 2 ^ 32 }
-    ensures { KeepsLimit spaces.now codes.now body.now more result }
+    ensures { KeepsLimit spaces.now codes.now (body_of body.entry) more result }
 {
     let words = u128::from(codes.words()) + u128::from(more);
     if passes_limit(u64::from(spaces.context().imported()), words) {
@@ -91,12 +92,12 @@ fn keep_limit(
 pub fn add_code(
     spaces: &ContextBuilder,
     codes: &mut Codes,
-    body: &Body,
+    body: BodyView<'_>,
     code: &Code,
 ) -> Result<(), FrontStop>
-    requires can { CanTakeNext spaces.now codes.old body.now }
-    requires code { TakesBody spaces.now codes.old.count body.now (Ok code.now) }
-    ensures takes { TakesCode spaces.now codes.old body.now result codes.new }
+    requires can { CanTakeNext spaces.now codes.old (body_of body) }
+    requires code { TakesBody spaces.now codes.old.count (body_of body) (Ok code.now) }
+    ensures takes { TakesCode spaces.now codes.old (body_of body.entry) result codes.new }
     ensures kept { KeepsAlike codes.old codes.new }
 {
     match keep_limit(spaces, codes, body, code.words.as_slice().len() as u64) {
@@ -114,10 +115,10 @@ fn keep_code<'a>(
     scratch: &mut Scratch<'a>,
     spaces: &'a ContextBuilder,
     codes: &mut Codes,
-    body: &Body,
+    body: BodyView<'_>,
 ) -> Result<(), FrontStop>
-    requires { CanTakeNext spaces.now codes.old body.now }
-    ensures takes { TakesCode spaces.now codes.old body.now result codes.new }
+    requires { CanTakeNext spaces.now codes.old (body_of body) }
+    ensures takes { TakesCode spaces.now codes.old (body_of body.entry) result codes.new }
     ensures kept { KeepsAlike codes.old codes.new }
 {
     match take_body(scratch, spaces, codes.count(), body) {
@@ -132,12 +133,12 @@ pub fn take_counted<'a>(
     scratch: &mut Scratch<'a>,
     spaces: &'a ContextBuilder,
     codes: &mut Codes,
-    body: &Body,
+    body: BodyView<'_>,
     words: u64,
 ) -> Result<(), FrontStop>
-    requires can { CanTakeNext spaces.now codes.old body.now }
-    requires code { (code : GivenCode) × (words ≡ length code.words) × TakesBody spaces.now codes.old.count body.now (Ok code) }
-    ensures takes { TakesCode spaces.now codes.old body.now result codes.new }
+    requires can { CanTakeNext spaces.now codes.old (body_of body) }
+    requires code { (code : GivenCode) × (words ≡ length code.words) × TakesBody spaces.now codes.old.count (body_of body) (Ok code) }
+    ensures takes { TakesCode spaces.now codes.old (body_of body.entry) result codes.new }
     ensures kept { KeepsAlike codes.old codes.new }
 {
     match keep_limit(spaces, codes, body, words) {
@@ -156,10 +157,10 @@ fn take_measured<'a>(
     scratch: &mut Scratch<'a>,
     spaces: &'a ContextBuilder,
     codes: &mut Codes,
-    body: &Body,
+    body: BodyView<'_>,
 ) -> Result<(), FrontStop>
-    requires { CanTakeNext spaces.now codes.old body.now }
-    ensures takes { TakesCode spaces.now codes.old body.now result codes.new }
+    requires { CanTakeNext spaces.now codes.old (body_of body) }
+    ensures takes { TakesCode spaces.now codes.old (body_of body.entry) result codes.new }
     ensures kept { KeepsAlike codes.old codes.new }
 {
     match measure_body(scratch, spaces, codes.count(), body) {
@@ -169,7 +170,7 @@ fn take_measured<'a>(
 }
 
 /// Whether a body is so long that with the instruction words of its code and those of these codes the text may pass its limit.
-fn may_pass_limit(spaces: &ContextBuilder, codes: &Codes, body: &Body) -> bool {
+fn may_pass_limit(spaces: &ContextBuilder, codes: &Codes, body: BodyView<'_>) -> bool {
     let left = u64::from(MAX_TEXT / 4).saturating_sub(codes.words());
     may_be_longer(spaces.context(), body, left)
 }
@@ -179,10 +180,10 @@ pub fn take_code<'a>(
     scratch: &mut Scratch<'a>,
     spaces: &'a ContextBuilder,
     codes: &mut Codes,
-    body: &Body,
+    body: BodyView<'_>,
 ) -> Result<(), FrontStop>
-    requires { CanTakeNext spaces.now codes.old body.now }
-    ensures takes { TakesCode spaces.now codes.old body.now result codes.new }
+    requires { CanTakeNext spaces.now codes.old (body_of body) }
+    ensures takes { TakesCode spaces.now codes.old (body_of body.entry) result codes.new }
     ensures kept { KeepsAlike codes.old codes.new }
 {
     // Why: docs/DECISIONS.md, "A body that may be too long is counted first"
@@ -207,9 +208,9 @@ pub fn take_batch(
     ensures kept { KeepsAlike codes.old codes.new }
 {
     let mut scratch = Scratch::new(alloc, spaces.context());
-    let mut bodies = batch.bodies.into_list();
-    while let Some(body) = bodies.pop_front() {
-        match take_code(&mut scratch, spaces, codes, &body) {
+    for index in 0..batch.bodies.count() {
+        let body = batch.bodies.get(index);
+        match take_code(&mut scratch, spaces, codes, body) {
             Ok(()) => {}
             Err(stop) => return Err(stop),
         }

@@ -1,9 +1,10 @@
 //! Takes bodies that were kept, with what workers made of them.
 
-ghost use Rattle.std.specs.Prelude.{◌≡◌, ◌≤◌, ℕ, Bool, List, Ok, All, IfSome, IsTrue, length, reverse};
+ghost use Rattle.std.specs.Prelude.{◌≡◌, ◌≤◌, ℕ, Bool, List, Ok, All, IfSome, length, reverse};
 ghost use Rattle.rv_isa.specs.declared.compiled.Code.{Code as GivenCode};
 ghost use Rattle.wasm_defs.specs.Outside.{Run as RunGiven};
 ghost use Rattle.section_reader.specs.Onward.{after_parts};
+ghost use Rattle.body_cutter.specs.Bodies.{body_of};
 ghost use Rattle.body_compiler.specs.BatchRows.{IsCodeFor, Stores};
 ghost use Rattle.module_stream.specs.Codes.{KeepsAlike};
 ghost use Rattle.module_stream.specs.CutBodies.{coded_all};
@@ -15,41 +16,12 @@ ghost use Rattle.module_stream.specs.Limits.{max_read};
 use crate::bodies::{add_code, limit_at, take_code, take_counted};
 use crate::codes::Codes;
 use body_compiler::{Row, RowCode, Scratch, Stored};
-use body_cutter::{Batch, Body};
+use body_cutter::{Batch, Bodies, BodyView};
 use index_spaces::ContextBuilder;
 use result_cells::Cells;
 use std::alloc::Global;
-use std::collections::LinkedList;
 use std::sync::Arc;
 use wasm_defs::FrontStop;
-
-/// Whether both are the same body.
-fn is_same(body: &Body, other: &Body) -> bool
-    ensures { IsTrue result → other.now ≡ body.now }
-{
-    other.index == body.index
-        && other.size == body.size
-        && other.first == body.first
-        && other.bytes.as_slice() == body.bytes.as_slice()
-}
-
-/// Whether both lists have the same bodies.
-fn are_same(bodies: &LinkedList<Body>, others: &LinkedList<Body>) -> bool
-    ensures { IsTrue result → others.now ≡ bodies.now }
-{
-    let mut others = others.iter();
-    for body in bodies.iter() {
-        match others.next() {
-            Some(other) => {
-                if !is_same(body, other) {
-                    return false;
-                }
-            }
-            None => return false,
-        }
-    }
-    others.next().is_none()
-}
 
 /// Takes the next body, of which a worker stored the code.
 fn take_stored<'a>(
@@ -57,13 +29,13 @@ fn take_stored<'a>(
     spaces: &'a ContextBuilder,
     codes: &mut Codes,
     cells: &Cells,
-    body: &Body,
+    body: BodyView<'_>,
     index: u32,
     stored: Stored,
 ) -> Result<(), FrontStop>
-    requires can { CanTakeNext spaces.now codes.old body.now }
-    requires code { (code : GivenCode) × Stores cells.now index stored code × TakesBody spaces.now codes.old.count body.now (Ok code) }
-    ensures takes { TakesCode spaces.now codes.old body.now result codes.new }
+    requires can { CanTakeNext spaces.now codes.old (body_of body) }
+    requires code { (code : GivenCode) × Stores cells.now index stored code × TakesBody spaces.now codes.old.count (body_of body) (Ok code) }
+    ensures takes { TakesCode spaces.now codes.old (body_of body.entry) result codes.new }
     ensures kept { KeepsAlike codes.old codes.new }
 {
     match stored {
@@ -84,12 +56,12 @@ fn take_next<'a>(
     spaces: &'a ContextBuilder,
     codes: &mut Codes,
     cells: &Cells,
-    body: &Body,
+    body: BodyView<'_>,
     made: Option<RowCode>,
 ) -> Result<(), FrontStop>
-    requires can { CanTakeNext spaces.now codes.old body.now }
-    requires made { IfSome made (IsCodeFor spaces.now cells.now body.now) }
-    ensures takes { TakesCode spaces.now codes.old body.now result codes.new }
+    requires can { CanTakeNext spaces.now codes.old (body_of body) }
+    requires made { IfSome made (IsCodeFor spaces.now cells.now (body_of body)) }
+    ensures takes { TakesCode spaces.now codes.old (body_of body.entry) result codes.new }
     ensures kept { KeepsAlike codes.old codes.new }
 {
     let Some(made) = made else {
@@ -110,7 +82,7 @@ fn take_bodies(
     spaces: &ContextBuilder,
     codes: &mut Codes,
     cells: &Cells,
-    bodies: &LinkedList<Body>,
+    bodies: &Bodies,
     mut made: Vec<RowCode>,
 ) -> Result<(), FrontStop>
     requires can { CanTakeAll spaces.now codes.old bodies.now }
@@ -122,7 +94,8 @@ fn take_bodies(
 {
     let mut scratch = Scratch::new(alloc, spaces.context());
     // Why: docs/DECISIONS.md, "The answer is worked out in the order of the bodies"
-    for body in bodies.iter() {
+    for index in 0..bodies.count() {
+        let body = bodies.get(index);
         match take_next(&mut scratch, spaces, codes, cells, body, made.pop()) {
             Ok(()) => {}
             Err(stop) => return Err(stop),
@@ -136,7 +109,7 @@ fn made_of(
     alloc: Global,
     spaces: &ContextBuilder,
     cells: &Cells,
-    bodies: &LinkedList<Body>,
+    bodies: &Bodies,
     row: Option<Row>,
 ) -> Vec<RowCode>
     requires { IsRowIf spaces.now cells.now row }
@@ -147,7 +120,7 @@ fn made_of(
     let Some(row) = row else {
         return Vec::new(alloc);
     };
-    if !are_same(bodies, row.batch.bodies.as_list()) {
+    if !bodies.is_same(&row.batch.bodies) {
         return Vec::new(alloc);
     }
     let mut made = row.codes.into_vec();
@@ -195,7 +168,7 @@ pub fn take_kept(
 {
     for batch in kept {
         let row = row_of(spaces, cells, &mut rows, batch.number);
-        let bodies = batch.bodies.as_list();
+        let bodies = &batch.bodies;
         let made = made_of(alloc, spaces, cells, bodies, row);
         match take_bodies(alloc, spaces, codes, cells, bodies, made) {
             Ok(()) => {}

@@ -9,7 +9,7 @@ use wasm_defs::{FrontStop, Refusal};
 /// A batch's number, its start, and how many bodies it has.
 fn told(batch: Option<Batch>) -> Option<(u32, u64, usize)> {
     let batch = batch?;
-    Some((batch.number, batch.start, batch.bodies.as_list().len()))
+    Some((batch.number, batch.start, batch.bodies.count()))
 }
 
 /// Whether a cutter takes all pieces of so many bytes.

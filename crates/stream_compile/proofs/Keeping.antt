@@ -8,7 +8,7 @@ use Rattle.wasm_defs.specs.declared.fault.Refusal.{Refusal}
 use Rattle.wasm_defs.specs.declared.front_stop.FrontStop.{FrontStop}
 use Rattle.wasm_defs.specs.declared.front_stop.FrontStop.TheVariants as stop
 use Rattle.body_cutter.specs.declared.batch.Batch.{Batch}
-use Rattle.body_cutter.specs.declared.body.Body.{Body}
+use Rattle.body_cutter.specs.Bodies.{Body}
 use Rattle.body_cutter.specs.Cuttings.{Cutting, IsFed, IsRefused, Takes}
 use Rattle.module_stream.specs.Limits.{max_read}
 use Rattle.module_stream.specs.declared.compilation.Compilation.{Compilation}

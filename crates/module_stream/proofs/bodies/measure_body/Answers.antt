@@ -1,13 +1,7 @@
-use Rattle.std.proofs.Common.{ℕ, List, ◌+◌, subst}
-use Rattle.std.specs.Prelude.{is_some}
-use Rattle.index_spaces.specs.Spaces.{context_in}
-use Rattle.wasm_defs.specs.Instances.{first_minimum}
 use Rattle.body_compiler.specs.Counting.{Measures}
 use Rattle.module_stream.proofs.Taking.{moved_body}
-use Rattle.wasm_defs.specs.Bodies.{body_read}
 use Rattle.module_stream.proofs.bodies.measure_body.Goals as goal
 
 pub returns : goal.returns
 returns c =
-    let here = subst (λ (l : List ℕ). Measures (first_minimum c.context-context.result.now.tables) c.args.body.now.first (context_in c.context-context.result.now) (c.imported.result + c.args.bodies) (body_read (is_some c.context-context.result.now.data_count) c.args.body.now.first l) c.measure.result) c.as_slice.ensures.value c.measure.ensures in
-    moved_body (λ rows first context index read. Measures rows first context index read c.measure.result) c.args.spaces.now c.context-context.result.now c.args.bodies c.imported.result c.args.body.now.first c.args.body.now.bytes c.context-context.ensures c.imported.ensures here
+    moved_body (λ rows first context index read. Measures rows first context index read c.measure.result) c.args.spaces.now c.context-context.result.now c.args.bodies c.imported.result c.args.body.first c.args.body.bytes.now c.context-context.ensures c.imported.ensures c.measure.ensures

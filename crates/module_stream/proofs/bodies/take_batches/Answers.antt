@@ -1,6 +1,6 @@
 use Rattle.std.proofs.Common.{List, ap, ◌∙◌, subst}
 use Rattle.section_reader.specs.Onward.{after_parts}
-use Rattle.body_cutter.specs.declared.body.Body.{Body}
+use Rattle.body_cutter.specs.Bodies.{Body}
 use Rattle.body_cutter.specs.Cuttings.{Cutting}
 use Rattle.module_stream.specs.CutBodies.{coded_all}
 use Rattle.module_stream.specs.Progress.{IsJudging}

@@ -1,4 +1,4 @@
-use Rattle.std.proofs.Common.{◌≤◌, ℕ, Bool, List, length}
+use Rattle.std.proofs.Common.{◌≤◌, ℕ, Bool, List, drop, length}
 use Rattle.std.specs.Prelude.{reverse}
 use Rattle.wasm_defs.specs.Outside.{Run}
 use Rattle.section_reader.specs.Onward.{after_parts}
@@ -9,12 +9,11 @@ use Rattle.module_stream.specs.Kept.{AreFront}
 use Rattle.module_stream.specs.Progress.{IsJudging}
 use Rattle.module_stream.proofs.shared.take_bodies.Given as goal
 
-abbrev pub invariant-loop-body : goal.invariant-loop-body
-invariant-loop-body l =
-    (goal.iterator-loop-body).can_next l.body-iterator
-    × (goal.iterator-loop-body).is_finite l.body-iterator
-    × KeepsAlike l.initial.codes l.codes
-    × AreFront l.spaces l.cells l.body-iterator (reverse l.made.items)
-    × ((bytes : List ℕ) (left : Run) (counted : Bool) → length bytes ≤ max_read
-    → IsJudging bytes (after_parts (coded_all counted l.bodies) left) l.spaces l.initial.codes
-    → IsJudging bytes (after_parts (coded_all counted l.body-iterator) left) l.spaces l.codes)
+abbrev pub invariant-loop-index : goal.invariant-loop-index
+invariant-loop-index l = record {
+  kept : KeepsAlike l.initial.codes l.codes;
+  made : AreFront l.spaces l.cells (drop l.index l.bodies) (reverse l.made.items);
+  judging : (bytes : List ℕ) (left : Run) (counted : Bool) → length bytes ≤ max_read
+      → IsJudging bytes (after_parts (coded_all counted l.bodies) left) l.spaces l.initial.codes
+      → IsJudging bytes (after_parts (coded_all counted (drop l.index l.bodies)) left) l.spaces l.codes;
+}

@@ -3,7 +3,7 @@ use Rattle.std.specs.Arc.{arc_value}
 use Rattle.std.specs.Vec.Iter.{into_iter_items}
 use Rattle.section_reader.specs.Onward.{after_parts}
 use Rattle.body_cutter.specs.declared.batch.Batch.{Batch}
-use Rattle.body_cutter.specs.declared.body.Body.{Body}
+use Rattle.body_cutter.specs.Bodies.{Body}
 use Rattle.module_stream.specs.CutBodies.{coded_all}
 use Rattle.module_stream.specs.Kept.{kept_bodies}
 use Rattle.module_stream.specs.Progress.{IsJudging, CanTakeAll}
@@ -23,7 +23,7 @@ take_bodies-requires-clause-can c =
     let rest = into_iter_items c.next.new.self in
     let bodies = (arc_value c.in-Some.batch).bodies in
     let batch : c.deref-in-loop-batch.result.now ≡ arc_value c.in-Some.batch = search rules in
-    let is = c.as_list-bodies.ensures ∙ ap (λ (b : Batch). b.bodies) batch in
+    let is = ap (λ (b : Batch). b.bodies) batch in
     subst (λ (x : List Body). CanTakeAll c.args.spaces.now l.codes x) (sym is) (
       bytes,
       after_parts (coded_all counted (kept_bodies rest)) left,
@@ -41,7 +41,7 @@ loop-batch-preserved c =
     let rest = into_iter_items c.next.new.self in
     let bodies = (arc_value c.in-Some.batch).bodies in
     let batch : c.deref-in-loop-batch.result.now ≡ arc_value c.in-Some.batch = search rules in
-    let is = c.as_list-bodies.ensures ∙ ap (λ (b : Batch). b.bodies) batch in
+    let is = ap (λ (b : Batch). b.bodies) batch in
     record {
       kept = c.in-Ok.ensures.kept ∙ l.invariant.kept;
       rows = c.row_of-row.ensures.rows;
@@ -61,7 +61,7 @@ returns-in-Err-clause-takes c = λ bytes left counted few j.
     let rest = into_iter_items c.next.new.self in
     let bodies = (arc_value c.in-Some.batch).bodies in
     let batch : c.deref-in-loop-batch.result.now ≡ arc_value c.in-Some.batch = search rules in
-    let is = c.as_list-bodies.ensures ∙ ap (λ (b : Batch). b.bodies) batch in
+    let is = ap (λ (b : Batch). b.bodies) batch in
     fault_taken bytes c.in-Err.stop (after_parts (coded_all counted (kept_bodies rest)) left) left c.args.spaces.now c.args.spaces.now c.take_bodies.new.codes c.take_bodies.new.codes
     (c.in-Err.ensures.takes bytes (after_parts (coded_all counted (kept_bodies rest)) left) counted few
     (subst (λ (x : List Body). IsJudging bytes (after_parts (coded_all counted x) (after_parts (coded_all counted (kept_bodies rest)) left)) c.args.spaces.now l.codes) (sym is)
