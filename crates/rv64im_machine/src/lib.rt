@@ -25,6 +25,7 @@ mod single;
 mod templates;
 mod transition;
 mod values;
+mod words;
 
 pub use linear_memory::LinearMemory;
 pub use machine::Machine;
