@@ -59,7 +59,7 @@ impl Bodies {
     }
 
     /// Gives the bodies back, without taking memory.
-    pub fn into_block(self) -> BodyBlock
+    pub(crate) fn into_block(self) -> BodyBlock
         ensures { result ≡ record { bodies = self; rest = [] } }
     {
         self.block

@@ -63,28 +63,28 @@ impl BodyBlock {
     }
 
     /// How many complete bodies there are.
-    pub fn count(&self) -> usize
+    pub(crate) fn count(&self) -> usize
         ensures { result ≡ length self.now.bodies }
     {
         self.cuts.len()
     }
 
     /// How many bytes there are, those of the body in hand among them.
-    pub fn len(&self) -> usize
+    pub(crate) fn len(&self) -> usize
         ensures { result ≡ length (bytes_in self.now) }
     {
         self.bytes.len()
     }
 
     /// How many bytes came of the body in hand.
-    pub fn rest_len(&self) -> usize
+    pub(crate) fn rest_len(&self) -> usize
         ensures { result ≡ length self.now.rest }
     {
         self.bytes.len() - begin_of(&self.cuts, self.cuts.len())
     }
 
     /// The complete body of an index.
-    pub fn get(&self, index: usize) -> BodyView<'_>
+    pub(crate) fn get(&self, index: usize) -> BodyView<'_>
         requires { index < length self.now.bodies }
         ensures body { body_of result ≡ body_at self.now.bodies index }
         ensures small { length result.bytes.now ≤ max_body }
@@ -100,7 +100,7 @@ impl BodyBlock {
     }
 
     /// Whether the other one has the same bodies, and the same bytes of one more.
-    pub fn is_same(&self, other: &BodyBlock) -> bool
+    pub(crate) fn is_same(&self, other: &BodyBlock) -> bool
         ensures { IsTrue result → other.now ≡ self.now }
     {
         are_same(&self.cuts, &other.cuts) && self.bytes.as_slice() == other.bytes.as_slice()
@@ -133,7 +133,7 @@ impl BodyBlock {
     }
 
     /// How many bodies and bytes it has, to be cut back to them.
-    pub fn mark(&self) -> Mark
+    pub(crate) fn mark(&self) -> Mark
         ensures { result ≡ mark_of self.now }
     {
         Mark {
@@ -143,7 +143,7 @@ impl BodyBlock {
     }
 
     /// Cuts it back to what it had when the mark was made.
-    pub fn cut_back(&mut self, mark: Mark)
+    pub(crate) fn cut_back(&mut self, mark: Mark)
         requires { (saved : Block) × (mark ≡ mark_of saved) × Begins saved self.old }
         ensures { (saved : Block) → mark ≡ mark_of saved → Begins saved self.old → self.new ≡ saved }
     {
@@ -152,7 +152,7 @@ impl BodyBlock {
     }
 
     /// The complete bodies alone, in no more room than they need.
-    pub fn without_rest(mut self) -> Self
+    pub(crate) fn without_rest(mut self) -> Self
         ensures { result ≡ record self { rest = [] } }
     {
         let end = begin_of(&self.cuts, self.cuts.len());
