@@ -14,7 +14,7 @@
 //!
 //! With a batch at 100 and one at 200, an error at 150 in the first one, and two workers: the second batch is run where its
 //! worker claims it first, and drained where its worker sees that error first. Either way the error at 150 is the least one.
-ghost use Rattle.std.specs.Prelude.{true, ℕ, ◌≡◌, ◌<◌, ◌^◌, ◌↔◌, ◌++◌, ◌∷◌, [], All, IsTrue, IfOk, IfSome, OnOk, OnErr, length};
+ghost use Rattle.std.specs.Prelude.{true, ℕ, ◌≡◌, ◌<◌, ◌^◌, ◌↔◌, All, IsTrue, IfOk, IfSome, OnOk, OnErr};
 ghost use Rattle.std.specs.Arc.{arc_value};
 ghost use Rattle.cancel_drain.specs.Views.{times};
 ghost use Rattle.body_cutter.specs.Bodies.{body_of};

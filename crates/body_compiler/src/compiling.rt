@@ -2,7 +2,6 @@
 
 ghost use Rattle.std.specs.Prelude.{◌≡◌, ◌+◌, ◌<◌, ◌≤◌, ◌^◌, [], IsSome, is_some, length};
 ghost use Rattle.wasm_defs.specs.Bodies.{body_read, Spelled as SpelledGiven};
-ghost use Rattle.wasm_defs.specs.Context.{type_of_function};
 ghost use Rattle.wasm_defs.specs.Instances.{first_minimum};
 ghost use Rattle.wasm_defs.specs.Limits.{max_body, max_locals};
 ghost use Rattle.wasm_defs.specs.Typing.{Context as ContextGiven, function_type};

@@ -4,24 +4,19 @@
 //! A token is read and checked as where the body is compiled. Then its words are counted, which depend on no index and no
 //! address: only a branch has more of them for each value that it takes along.
 
-ghost use Rattle.std.specs.Prelude.{◌≡◌, ◌≢◌, ◌≤◌, ◌<◌, ◌+◌, ◌*◌, ◌^◌, true, false, Bool, ℕ, List, [], ◌∷◌, Some, None, IsSome, is_some, length};
-ghost use Rattle.std.specs.Prelude.{drop, reverse, slice_index_or, IfOk, IfErr, OnOk};
-ghost use Rattle.rv_isa.specs.declared.compiled.Code.{Code as CodeGiven};
-ghost use Rattle.wasm_defs.specs.Bodies.{body_read, instruction, with_mem_arg, constant, Spelled as SpelledGiven};
-ghost use Rattle.wasm_defs.specs.Context.{type_of_function};
-ghost use Rattle.wasm_defs.specs.Fields.{Cursor as CursorGiven, Got, byte};
+ghost use Rattle.std.specs.Prelude.{◌≡◌, ◌≤◌, ◌<◌, ◌+◌, ◌*◌, ◌^◌, true, false, ℕ, [], ◌∷◌, Some, None, IsSome, is_some, length};
+ghost use Rattle.std.specs.Prelude.{drop, reverse, slice_index_or, IfOk, OnOk};
+ghost use Rattle.wasm_defs.specs.Bodies.{body_read, instruction, Spelled as SpelledGiven};
 ghost use Rattle.wasm_defs.specs.Instances.{first_minimum};
-ghost use Rattle.wasm_defs.specs.Limits.{max_body, max_locals, max_text};
+ghost use Rattle.wasm_defs.specs.Limits.{max_body};
 ghost use Rattle.wasm_defs.specs.SmallTypes.{TypeIsSmall};
 ghost use Rattle.wasm_defs.specs.declared.token.Token.TheVariants.{Else, Plain as PlainGiven};
 ghost use Rattle.wasm_defs.specs.Typing.{Context as ContextGiven, function_type};
 ghost use Rattle.index_spaces.specs.Spaces.{context_in};
-ghost use Rattle.frame_layout.specs.Functions.{over};
 ghost use Rattle.frame_layout.specs.Templates.{Declarations, EmitContext, words};
 ghost use Rattle.frame_layout.proofs.Sizes.{jump_count, front_count, unless_count};
 ghost use Rattle.control_emit.specs.Pending.{AreBelow};
 ghost use Rattle.body_validator.specs.Checking.{guarded, start_checker};
-ghost use Rattle.body_validator.specs.Checks.{Checked};
 ghost use Rattle.body_compiler.specs.Counting.{jump_sum, word_count, labels_of, after_token, CountsToken, IsCounting, IsCountingOn, CountsCode};
 ghost use Rattle.body_compiler.specs.Counting.{AreCounted, going_of, opening, test_size, Sizes, Measures};
 ghost use Rattle.wasm_laws.specs.Sections.{AreBytes};

@@ -1,6 +1,6 @@
 //! A body before the first token of its code: its locals are declared.
 
-ghost use Rattle.std.specs.Prelude.{◌≡◌, ◌+◌, ◌<◌, ◌≤◌, ◌^◌, ℕ, IsSome, is_some, length, IfOk, IfErr, Err};
+ghost use Rattle.std.specs.Prelude.{◌+◌, ◌<◌, ◌≤◌, ◌^◌, ℕ, IsSome, is_some, length, IfOk, IfErr, Err};
 ghost use Rattle.wasm_defs.specs.Bodies.{body_read};
 ghost use Rattle.wasm_defs.specs.Limits.{max_body};
 ghost use Rattle.wasm_defs.specs.Typing.{function_type};

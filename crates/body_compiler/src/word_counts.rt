@@ -2,7 +2,7 @@
 
 ghost use Rattle.std.specs.Prelude.{◌≡◌, ◌≤◌, ◌+◌, false, length, ℕ, List};
 ghost use Rattle.frame_layout.specs.declared.layout.Layout.{Layout as LayoutGiven};
-ghost use Rattle.frame_layout.specs.Bodies.{unary_body, binary_body, compare_body, convert_body, extend_body};
+ghost use Rattle.frame_layout.specs.Bodies.{unary_body, binary_body, compare_body, extend_body};
 ghost use Rattle.frame_layout.specs.BulkWords.{bulk_words};
 ghost use Rattle.frame_layout.specs.Templates.{Declarations, EmitContext, Label, convert_words, operate_words, words, prologue, epilogue};
 ghost use Rattle.body_compiler.specs.Steps.{branches_plain, max_lift};

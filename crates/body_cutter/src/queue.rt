@@ -1,7 +1,7 @@
 //! Batches that wait to be taken.
 
 ghost use Rattle.std.specs.Prelude.{◌≡◌, ℕ, ◌+◌, ◌<◌, ◌≤◌, ◌^◌, [], ◌++◌, length, take, drop, All, None, OnOk, OnErr, IfSome, IfNone};
-ghost use Rattle.body_cutter.specs.Queues.{joined, batch_length, starts_at, IsFull};
+ghost use Rattle.body_cutter.specs.Queues.{batch_length, starts_at, IsFull};
 ghost use Rattle.body_cutter.specs.Held.{last_of, waiting, IsLastIf};
 
 use crate::batch::{Batch, Bodies};

@@ -12,7 +12,7 @@
 
 ghost use Rattle.std.specs.Prelude.{◌≡◌, ℕ, ◌+◌, ◌<◌, ◌≤◌, Bool, false, [], ◌++◌, length, map, reverse, take, drop, is_some, Some, vec_len, IfOk};
 ghost use Rattle.std.specs.Prelude.{OnOk, OnErr};
-ghost use Rattle.body_validator.specs.Checking.{take_all, none_left, selected_of};
+ghost use Rattle.body_validator.specs.Checking.{take_all, none_left};
 ghost use Rattle.body_validator.specs.Stacks.{own_of};
 ghost use Rattle.body_validator.specs.Exchange.{taken_types, few_types, given_types, Exchanges, TakesOne, TakesThree};
 ghost use Rattle.body_validator.specs.Kept.{flat, floor_of, spreads, IsKept, IsSeen, AreShown, AreSame, HasRoom, KeepsRoom, IsTakenFrom, IsTried};

@@ -1,6 +1,6 @@
 //! Runs of instruction words of branches.
 
-ghost use Rattle.std.specs.Prelude.{◌≡◌, ◌+◌, ◌-◌, ◌*◌, ◌^◌, ◌<◌, ◌≤◌, ◌++◌, ◌∷◌, [], map, length, OnOk, OnErr};
+ghost use Rattle.std.specs.Prelude.{◌≡◌, ◌+◌, ◌-◌, ◌*◌, ◌^◌, ◌<◌, ◌++◌, ◌∷◌, [], map, length, OnOk, OnErr};
 ghost use Rattle.rv_isa.specs.declared.operations.Op.TheVariants.{Branch as BranchGiven};
 ghost use Rattle.rv_isa.specs.declared.operations.BranchOp.TheVariants.{Bne as BneGiven};
 ghost use Rattle.rv_isa.specs.Words.{word_of};

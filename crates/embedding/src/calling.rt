@@ -1,5 +1,5 @@
 //! Calls of functions of modules.
-ghost use Rattle.std.specs.Prelude.{◌≡◌, IfOk};
+ghost use Rattle.std.specs.Prelude.{IfOk};
 ghost use Rattle.image_run.specs.Ends.{TellsCount};
 ghost use Rattle.embedding.specs.Calls.{CallsImage, CallsModule, IsFirst};
 

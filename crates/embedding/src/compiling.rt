@@ -1,5 +1,5 @@
 //! Modules whose bytes are in memory.
-ghost use Rattle.std.specs.Prelude.{◌≡◌, IfOk};
+ghost use Rattle.std.specs.Prelude.{IfOk};
 ghost use Rattle.embedding.specs.Modules.{IsCompiled};
 
 use image_format::Image;

@@ -1,6 +1,6 @@
 //! The imports of a module: their stubs, which come before its functions, and the imports of its image.
 
-ghost use Rattle.std.specs.Prelude.{◌≡◌, ◌≤◌, ◌<◌, ◌+◌, ◌*◌, ◌^◌, length, map, slice_get, IfOk};
+ghost use Rattle.std.specs.Prelude.{◌≡◌, ◌<◌, ◌+◌, ◌*◌, ◌^◌, length, map, slice_get, IfOk};
 ghost use Rattle.wasm_defs.specs.Context.{type_or_empty};
 ghost use Rattle.rv_isa.specs.Words.{word_of};
 ghost use Rattle.frame_layout.specs.Templates.{exit_stub};

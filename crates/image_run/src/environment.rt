@@ -1,6 +1,5 @@
 //! The environment of an image: what an ECALL does, by the number in a7.
 ghost use Rattle.std.specs.Prelude.{◌≡◌, ◌+◌, ◌*◌, ◌^◌, ◌<◌, ◌≤◌, true, length};
-ghost use Rattle.rv_isa.specs.Steps.{State};
 ghost use Rattle.rv64im_machine.specs.Contents.{state_of};
 ghost use Rattle.wasm_defs.specs.Memory.{page};
 ghost use Rattle.image_format.specs.declared.limits.TheConstants.{PARAMS};

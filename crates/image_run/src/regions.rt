@@ -1,5 +1,5 @@
 //! The bytes that an image is loaded to.
-ghost use Rattle.std.specs.Prelude.{◌≡◌, ◌+◌, ◌*◌, ◌^◌, ◌≤◌, ◌++◌, IfOk, IsTrue, length};
+ghost use Rattle.std.specs.Prelude.{◌≡◌, ◌+◌, ◌*◌, ◌≤◌, IfOk, IsTrue, length};
 ghost use Rattle.rv64im_machine.specs.Contents.{bytes_of};
 ghost use Rattle.wasm_defs.specs.Instances.{all_fit, all_over, over};
 ghost use Rattle.wasm_defs.specs.Memory.{page};

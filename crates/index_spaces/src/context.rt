@@ -4,7 +4,8 @@ ghost use Rattle.std.specs.Prelude.{◌≡◌, ◌^◌, ◌<◌, ◌↔◌, [], 
 ghost use Rattle.wasm_defs.specs.Typing.{function_type};
 ghost use Rattle.wasm_defs.specs.Context.{like};
 ghost use Rattle.wasm_defs.specs.SmallTypes.{TypeIsSmall, TypesAreSmall};
-ghost use Rattle.index_spaces.specs.Spaces.{context_in, spaces_of, with_type, with_import, with_function, with_functions, with_table, with_memory, with_global, with_export};
+ghost use Rattle.index_spaces.specs.Spaces.{context_in, spaces_of, with_type, with_import, with_function};
+ghost use Rattle.index_spaces.specs.Spaces.{with_functions, with_table, with_memory, with_global, with_export};
 ghost use Rattle.index_spaces.specs.Spaces.{with_elements, with_segment, with_data_count, with_start};
 
 use crate::entries::{DataRow, ElementRow, Export, Import};

@@ -9,7 +9,7 @@ ghost use Rattle.rv_isa.specs.Words.{word_of};
 ghost use Rattle.wasm_defs.specs.declared.types.ValType.TheVariants.{I32};
 ghost use Rattle.frame_layout.specs.Slots.{operand};
 ghost use Rattle.frame_layout.specs.Macros.{x0, t0, t1, t2, minus_one};
-ghost use Rattle.frame_layout.specs.Bodies.{population, cut, smear, last_smear, unary_body};
+ghost use Rattle.frame_layout.specs.Bodies.{population, cut, smear, unary_body};
 ghost use Rattle.frame_layout.specs.Templates.{EmitContext, load_operand, store_operand, on_one};
 ghost use Rattle.integer_emit.specs.Sorts.{IsUnary, operation_words};
 

@@ -4,12 +4,12 @@
 
 ghost use Rattle.std.specs.Prelude.{◌≡◌, ◌≤◌, ◌<◌, ◌+◌, ◌-◌, ◌*◌, ◌^◌, ◌≤ℤ◌, ◌<ℤ◌, neg_ℤ, pos, ℕ, length, false, true, IfOk, List, drop, take, OnErr};
 ghost use Rattle.wasm_defs.specs.Numbers.{Spells};
-ghost use Rattle.wasm_defs.specs.Fields.{Cursor, window, past, cut, room_of, byte, number, u32, count, run, room, here, stop, counted_bytes, text_after, least};
+ghost use Rattle.wasm_defs.specs.Fields.{Cursor, window, past, cut, room_of, byte, number, u32, count, run, room, stop, counted_bytes, text_after, least};
 ghost use Rattle.wasm_defs.specs.Fields.{length_owed, name, fixed};
 ghost use Rattle.wasm_defs.specs.Fields.{agree};
 ghost use Rattle.wasm_defs.specs.Entries.{value_type};
 ghost use Rattle.wasm_defs.specs.Outside.{inside, no_end};
-ghost use Rattle.leb_feed.specs.Reads.{Reads, Stops, NeedsNoMemory};
+ghost use Rattle.leb_feed.specs.Reads.{Reads, NeedsNoMemory};
 
 use crate::number::{ReadAt, read_at};
 use crate::stop::Stop;

@@ -1,7 +1,7 @@
 //! LEB128 numbers (Core 5.2.2), read from a slice.
 
-ghost use Rattle.std.specs.Prelude.{◌≡◌, ◌↔◌, ℕ, ℤ, ◌+◌, ◌-◌, ◌≤◌, ◌<◌, length, drop, slice_range};
-ghost use Rattle.wasm_defs.specs.Numbers.{BeginsWithNumber, IsCutOff, IsNoNumber, IsSmall, number_at, last_byte};
+ghost use Rattle.std.specs.Prelude.{◌≡◌, ◌↔◌, ℕ, ℤ, ◌+◌, ◌-◌, ◌≤◌, ◌<◌, length, drop};
+ghost use Rattle.wasm_defs.specs.Numbers.{BeginsWithNumber, IsCutOff, IsNoNumber, number_at, last_byte};
 ghost use Rattle.leb_feed.specs.Answers.{answer};
 
 /// What is at an index of a slice.

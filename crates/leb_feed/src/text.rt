@@ -1,6 +1,6 @@
 //! UTF-8 (WebAssembly Core 1.0, 5.2.4), read from the left, and whose bytes may come in pieces.
 
-ghost use Rattle.std.specs.Prelude.{◌≡◌, ◌≤◌, length, Some};
+ghost use Rattle.std.specs.Prelude.{◌≡◌, Some};
 ghost use Rattle.wasm_defs.specs.Text.{between, first_byte, next_byte, completes};
 ghost use Rattle.leb_feed.specs.Texts.{text_state};
 

@@ -1,6 +1,6 @@
 //! Compiles several modules on one thread.
 
-ghost use Rattle.std.specs.Prelude.{◌≡◌, ◌<◌, ◌^◌, ◌-◌, true, length, nat_lt, IfOk};
+ghost use Rattle.std.specs.Prelude.{◌≡◌, ◌<◌, ◌^◌, ◌-◌, true, length, IfOk};
 ghost use Rattle.io_edges.specs.Streams.{TookFront};
 ghost use Rattle.many_streams.specs.Fronts.{ReachesFront};
 

@@ -1,6 +1,6 @@
 //! What comes of a module while its compilation is lent to workers.
 
-ghost use Rattle.std.specs.Prelude.{◌≡◌, ◌≤◌, ◌++◌, ℕ, List, OnOk};
+ghost use Rattle.std.specs.Prelude.{◌++◌, ℕ, List, OnOk};
 ghost use Rattle.batch_pool.specs.Lanes.{AreDesks, Each, Reads};
 ghost use Rattle.many_streams.specs.declared.member.Part.{Part as Lent};
 ghost use Rattle.many_streams.specs.Members.{IsFed};

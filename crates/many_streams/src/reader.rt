@@ -1,7 +1,7 @@
 //! The push parser of frames: it is fed with the input's bytes, in pieces however they are cut.
 
 ghost use Rattle.std.specs.Prelude.{◌≡◌, ◌<◌, ◌≤◌, ◌+◌, ◌++◌, ◌^◌, ◌∷◌, ℕ, List, [], true, false};
-ghost use Rattle.std.specs.Prelude.{length, slice_index, slice_index_or, slice_set, MatchOption, IfOk, OnOk};
+ghost use Rattle.std.specs.Prelude.{length, slice_index_or, MatchOption, IfOk, OnOk};
 ghost use Rattle.many_streams.specs.Frames.{u32};
 ghost use Rattle.many_streams.specs.Reading.{byte_count, IsReading, MayTake, Takes, Ends, TakesNumber, TakesDigit, IsNumberNext};
 ghost use Rattle.many_streams.specs.Reading.{HasCount, HasIndex, HasLength, SetsFlags, AreAllSet};

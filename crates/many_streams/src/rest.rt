@@ -1,6 +1,6 @@
 //! Reads the rest of the input, and hands bodies over, while workers compile those that came.
 
-ghost use Rattle.std.specs.Prelude.{◌≡◌, ◌<◌, ◌^◌, ◌-◌, ℕ, Bool, true, List, Option, length};
+ghost use Rattle.std.specs.Prelude.{◌≡◌, ◌<◌, ◌-◌, ℕ, Bool, List, Option, length};
 ghost use Rattle.io_edges.specs.Streams.{TookFront};
 ghost use Rattle.batch_pool.specs.Lanes.{AreDesks, Each, Reads};
 ghost use Rattle.many_streams.specs.declared.member.Member.{Member};

@@ -1,6 +1,6 @@
 //! What several modules come to.
 
-ghost use Rattle.std.specs.Prelude.{◌≡◌, ◌<◌, ◌^◌, ◌-◌, ℕ, Bool, List, true, false, length, nat_lt, IfOk};
+ghost use Rattle.std.specs.Prelude.{◌≡◌, ◌<◌, ◌^◌, ◌-◌, ℕ, Bool, List, true, false, nat_lt, IfOk};
 ghost use Rattle.io_edges.specs.Streams.{TookFront};
 ghost use Rattle.many_streams.specs.Many.{AreEach, ComesToMany, AnswersMany, ChecksMany, view};
 ghost use Rattle.many_streams.specs.Members.{IsJudged, IsEach, IsEachChecked};

@@ -2,7 +2,7 @@
 
 ghost use Rattle.std.specs.Prelude.{◌≡◌, ◌<◌, ◌+◌, ℕ, Bool, [], List, Option, All, length, IfOk, IfSome};
 ghost use Rattle.io_edges.specs.Streams.{TookFront};
-ghost use Rattle.batch_pool.specs.Lanes.{IsDeskOf, HasReadIn};
+ghost use Rattle.batch_pool.specs.Lanes.{IsDeskOf};
 ghost use Rattle.body_compiler.specs.BatchRows.{IsRowIf};
 ghost use Rattle.many_streams.specs.declared.member.Member.TheVariants as state;
 ghost use Rattle.many_streams.specs.Rests.{IsArriving, HasArrived};

@@ -1,6 +1,6 @@
 //! Compiles bodies: each is validated, and its instruction words are counted.
 
-ghost use Rattle.std.specs.Prelude.{◌≡◌, ◌≤◌, ◌<◌, ◌+◌, ◌*◌, ◌^◌, OnOk, Ok, None, ℕ, Bool, List, [], length};
+ghost use Rattle.std.specs.Prelude.{◌≡◌, ◌≤◌, ◌<◌, ◌+◌, ◌^◌, OnOk, Ok, ℕ, Bool, List, [], length};
 ghost use Rattle.rv_isa.specs.declared.compiled.Code.{Code as GivenCode};
 ghost use Rattle.wasm_defs.specs.Outside.{Run as RunGiven};
 ghost use Rattle.section_reader.specs.Onward.{after_parts};

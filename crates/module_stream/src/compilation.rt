@@ -31,7 +31,8 @@ ghost use Rattle.module_stream.specs.Kept.{kept_bodies};
 ghost use Rattle.module_stream.specs.Progress.{IsJudging, CanTakeAll, TakesPart};
 ghost use Rattle.module_stream.specs.Done.{IsDone, Decides, IsBuilt};
 ghost use Rattle.module_stream.specs.Done.{checked_of};
-ghost use Rattle.module_stream.specs.Streaming.{IsGoing, IsErrorFree, IsUnread, MayGo, MayEnd, GoesOn, Advances, Lessens, work_left, IsWaiting, AllWait, WaitsAfter};
+ghost use Rattle.module_stream.specs.Streaming.{IsGoing, IsErrorFree, IsUnread, MayGo, MayEnd, GoesOn};
+ghost use Rattle.module_stream.specs.Streaming.{Advances, Lessens, work_left, IsWaiting, AllWait, WaitsAfter};
 ghost use Rattle.module_stream.specs.Streaming.{with_cutter, KeepsRest, IsTaking, MayTake, MayBegin, TakesItem};
 ghost use Rattle.module_stream.specs.Limits.{max_read};
 

@@ -1,6 +1,6 @@
 //! Takes bodies that were kept, with what workers made of them.
 
-ghost use Rattle.std.specs.Prelude.{◌≡◌, ◌≤◌, ℕ, Bool, List, Ok, All, IfSome, length, reverse};
+ghost use Rattle.std.specs.Prelude.{◌≤◌, ℕ, Bool, List, Ok, All, IfSome, length, reverse};
 ghost use Rattle.rv_isa.specs.declared.compiled.Code.{Code as GivenCode};
 ghost use Rattle.wasm_defs.specs.Outside.{Run as RunGiven};
 ghost use Rattle.section_reader.specs.Onward.{after_parts};

@@ -2,7 +2,8 @@
 ghost use Rattle.std.specs.Prelude.{◌≡◌, ◌↔◌, ◌^◌, ◌<◌, ◌+◌, IsNone};
 ghost use Rattle.rv_isa.specs.declared.operations.Op.{Op};
 ghost use Rattle.rv_isa.specs.Words.{field, rd, rs1, rs2, funct3, r_code, shift_code, i_imm, s_imm, b_imm, u_imm, j_imm, jalr_of, branch_of, load_of, store_of};
-ghost use Rattle.rv_isa.specs.Words.{funct, shift_op, shift_w_op, reg_op, reg_w_op, shift_of, imm_of, imm_w_of, reg_of, reg_w_of, fence_of, system_of, with_opcode, decoded, Encodes};
+ghost use Rattle.rv_isa.specs.Words.{funct, shift_op, shift_w_op, reg_op, reg_w_op, shift_of, imm_of, imm_w_of};
+ghost use Rattle.rv_isa.specs.Words.{reg_of, reg_w_of, fence_of, system_of, with_opcode, decoded, Encodes};
 
 use crate::fields::{Imm12, Imm20, Register, Shamt5, Shamt6};
 use crate::operations::{BranchOp, ImmOp, LoadOp, Op, RegOp, RegOpW, ShiftOp, ShiftOpW, StoreOp};

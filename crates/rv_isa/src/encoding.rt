@@ -1,6 +1,7 @@
 //! The instruction word of an operation (sections 2.2 and 2.3, chapter 24).
 ghost use Rattle.std.specs.Prelude.{◌≡◌, ◌^◌, ◌<◌};
-ghost use Rattle.rv_isa.specs.declared.operations.Op.TheVariants.{Lui as LuiGiven, Auipc as AuipcGiven, Jalr as JalrGiven, Ecall as EcallGiven, Branch as BranchGiven};
+ghost use Rattle.rv_isa.specs.declared.operations.Op.TheVariants.{Lui as LuiGiven, Auipc as AuipcGiven, Jalr as JalrGiven};
+ghost use Rattle.rv_isa.specs.declared.operations.Op.TheVariants.{Ecall as EcallGiven, Branch as BranchGiven};
 ghost use Rattle.rv_isa.specs.declared.operations.Op.TheVariants.{Load as LoadGiven, Store as StoreGiven, Imm as ImmGiven, Shift as ShiftGiven};
 ghost use Rattle.rv_isa.specs.declared.operations.Op.TheVariants.{Reg as RegGiven, RegW as RegWGiven};
 ghost use Rattle.rv_isa.specs.Words.{opcode_bits, r_type, i_type, shift_type, s_type, b_type, u_type, j_type, IsRegister, word_of, IsInRange};

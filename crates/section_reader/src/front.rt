@@ -17,7 +17,6 @@
 //! The code section's count is an item too. After it the bodies may go elsewhere, and the reader skips them (`skip_to`).
 
 ghost use Rattle.std.specs.Prelude.{◌≡◌, ◌≤◌, ◌<◌, ◌+◌, ◌^◌, ℕ, List, ◌++◌, length, [], true, false, None, Ok, Err, IfSome, IsSome, OnOk, is_some};
-ghost use Rattle.std.specs.Bool.{OnTrue};
 ghost use Rattle.std.proofs.Props.{props};
 ghost use Rattle.wasm_defs.specs.Faults.{ending_fault};
 ghost use Rattle.wasm_defs.specs.Outside.{module_read, sections, no_end};

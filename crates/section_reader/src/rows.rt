@@ -1,7 +1,6 @@
 //! What a section holds around its entries: how many they are, and what is passed over after them (WebAssembly Core
 //! 1.0, 5.5.2).
 
-ghost use Rattle.std.specs.Prelude.{◌≡◌};
 ghost use Rattle.wasm_defs.specs.Outside.{number_of, at_most_one, function_count, segment_count, custom_name, rest_of_section};
 ghost use Rattle.leb_feed.specs.Reads.{Reads, NeedsNoMemory};
 ghost use Rattle.section_reader.specs.Outline.{outline_row};

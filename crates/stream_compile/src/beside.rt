@@ -1,6 +1,6 @@
 //! Reads bodies while workers compile them.
 
-ghost use Rattle.std.specs.Prelude.{◌≡◌, ◌<◌, ◌^◌, ℕ, Bool, true, [], List, Option, None, IfSome, IfOk, length};
+ghost use Rattle.std.specs.Prelude.{◌≡◌, ◌<◌, ℕ, Bool, true, [], List, Option, None, IfSome, IfOk};
 ghost use Rattle.io_edges.specs.Streams.{TookFront};
 ghost use Rattle.batch_pool.specs.Desks.{HasRead};
 ghost use Rattle.module_stream.specs.declared.compilation.Compilation.{Compilation as Given};

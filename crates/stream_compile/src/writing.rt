@@ -1,7 +1,7 @@
 //! What is written to the sink. Nothing here takes memory.
 
-ghost use Rattle.std.specs.Prelude.{ℕ, Option, ◌≡◌, ◌≢◌, ◌<◌, ◌^◌, ◌-◌, ◌∷◌, ◌++◌, [], List, length, true, codes, nat_lt};
-ghost use Rattle.std.specs.Fmt.{decimal, signed_decimal};
+ghost use Rattle.std.specs.Prelude.{ℕ, Option, ◌≡◌, ◌<◌, ◌^◌, ◌-◌, ◌∷◌, ◌++◌, [], List, length, true, codes, nat_lt};
+ghost use Rattle.std.specs.Fmt.{decimal};
 ghost use Rattle.std.specs.List.{flat_map};
 ghost use Rattle.wasm_defs.specs.Values.{Value as ModuleValue, trap_text, value_of};
 ghost use Rattle.io_edges.specs.Streams.{WritesText};

@@ -1,5 +1,5 @@
 //! Vectors of bytes in a memory (`ciovec_array` of WASI preview 1).
-ghost use Rattle.std.specs.Prelude.{◌≡◌, ◌+◌, ◌*◌, ◌^◌, ◌<◌, ◌≤◌, true, ℕ, List, length, take, drop, IfSome, IsSome, Some, Option, option_map};
+ghost use Rattle.std.specs.Prelude.{◌≡◌, ◌+◌, ◌^◌, ◌<◌, ◌≤◌, true, ℕ, List, length, take, drop, IfSome, IsSome, Some, Option, option_map};
 ghost use Rattle.std.specs.Option.{option_copied};
 ghost use Rattle.io_edges.specs.Streams.{WritesText};
 ghost use Rattle.wasm_defs.specs.Memory.{bytes_at, number_of};

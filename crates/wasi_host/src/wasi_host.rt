@@ -1,5 +1,5 @@
 //! The host.
-ghost use Rattle.std.specs.Prelude.{◌≡◌, true, None, IfSome, length, if◌then◌else◌};
+ghost use Rattle.std.specs.Prelude.{◌≡◌, true, None, IfSome, if◌then◌else◌};
 ghost use Rattle.image_run.specs.Hosts.{call_of};
 ghost use Rattle.wasi_host.specs.Answers.{Counts, answer_of, answered_by, bytes_or_errno};
 ghost use Rattle.wasi_host.specs.ExitCodes.{code_of_call, last_of};

@@ -1,7 +1,7 @@
 //! Values, and the ends of runs that a trap brings.
 
-ghost use Rattle.std.specs.Prelude.{◌≡◌, codes, option_map};
-ghost use Rattle.wasm_defs.specs.Values.{value_of, trap_text, trap_number, trap_of, type_of};
+ghost use Rattle.std.specs.Prelude.{◌≡◌};
+ghost use Rattle.wasm_defs.specs.Values.{trap_text, trap_number, trap_of, type_of};
 
 use crate::types::ValType;
 

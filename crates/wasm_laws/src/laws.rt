@@ -1,6 +1,6 @@
 //! The laws of how a module's bytes are read.
 
-ghost use Rattle.std.specs.Prelude.{◌≡◌, ◌≤◌, ◌<◌, ◌*◌, ℕ, Bool, true, is_some, length, List, [], Some, suc, ◌∷◌, ◌++◌};
+ghost use Rattle.std.specs.Prelude.{◌≡◌, ◌≤◌, ◌<◌, ℕ, Bool, true, is_some, length, List, [], Some, suc, ◌∷◌, ◌++◌};
 ghost use Rattle.std.specs.List.{All};
 ghost use Rattle.wasm_defs.specs.Bodies.{body_read, instruction, last_of, local_groups};
 ghost use Rattle.wasm_defs.specs.Context.{context_of, data_count_of, declared_count, functions_of, segment_count_of, types_of};
@@ -9,13 +9,10 @@ ghost use Rattle.wasm_defs.specs.Faults.{bodies_of, ending_fault, IsModule, item
 ghost use Rattle.wasm_defs.specs.Fields.{Cursor, Wants, byte, fixed, name, number, room_of};
 ghost use Rattle.wasm_defs.specs.Instances.{exports_of, named, start_of};
 ghost use Rattle.wasm_defs.specs.Outside.{agrees, Body, Coded, header, module_read, Part, preamble, row, Section, section_end, Whole};
-ghost use Rattle.wasm_defs.specs.Places.{greatest, places_of};
 ghost use Rattle.wasm_defs.specs.Trees.{Seq, Tree};
 ghost use Rattle.wasm_defs.specs.Typing.{Context, function_type};
 ghost use Rattle.wasm_defs.specs.declared.types.FuncType.{FuncType};
 ghost use Rattle.wasm_defs.specs.declared.fault.Refusal.{Refusal};
-ghost use Rattle.wasm_defs.specs.declared.item.Item.{Item};
-ghost use Rattle.wasm_defs.specs.declared.token.Token.{Token};
 ghost use Rattle.wasm_laws.specs.Behind.{AreValidIn, StandBehind};
 ghost use Rattle.wasm_laws.specs.BodyOrder.{IsSpelledIn};
 ghost use Rattle.wasm_laws.specs.Completing.{Completes, CompletesOrPasses};

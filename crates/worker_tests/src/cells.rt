@@ -1,5 +1,5 @@
 //! Cells that are set by one thread and by two.
-ghost use Rattle.std.specs.Prelude.{◌≡◌, ◌<◌, length};
+ghost use Rattle.std.specs.Prelude.{◌<◌, length};
 
 use result_cells::{Cells, Put};
 use rv_isa::{Code, Relocations, TrapSites, Words};

@@ -1,5 +1,5 @@
 //! Workers for several modules, in threads of their own.
-ghost use Rattle.std.specs.Prelude.{◌≡◌, ◌<◌, ◌+◌, ◌⊎◌, ℕ, List, All, [], length, vec_len, IfOk, IfErr, IfSome, false};
+ghost use Rattle.std.specs.Prelude.{◌≡◌, ◌<◌, ◌+◌, ◌⊎◌, List, All, length, vec_len, IfOk, IfErr, IfSome, false};
 ghost use Rattle.batch_pool.specs.declared.lanes.lane.Lane.{Lane as Way};
 ghost use Rattle.batch_pool.specs.declared.lanes.lane.LaneSeat.{LaneSeat as Seat};
 ghost use Rattle.batch_pool.specs.Lanes.{AreSeated, AreApart, AreFresh, AreDesks, Each, IsWorkedMany, GathersIn, HasReadIn, HaveNoRows, HaveParts, HaveRoom};

@@ -1,5 +1,4 @@
 //! What a thread that reads several modules does while workers compile.
-ghost use Rattle.batch_pool.specs.declared.lanes.lane.Lane.{Lane as Way};
 ghost use Rattle.batch_pool.specs.Lanes.{AreDesks, Each, Reads};
 
 use crate::feeder::Feeder;

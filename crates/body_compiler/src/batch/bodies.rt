@@ -1,5 +1,5 @@
 //! Compiles the bodies of a batch.
-ghost use Rattle.std.specs.Prelude.{◌≡◌, ◌+◌, ◌<◌, ◌≤◌, ◌^◌, All, IfOk, IsSome, length};
+ghost use Rattle.std.specs.Prelude.{◌≡◌, ◌<◌, ◌≤◌, All, IfOk, length};
 ghost use Rattle.std.specs.Arc.{arc_value};
 ghost use Rattle.wasm_defs.specs.Limits.{max_body};
 ghost use Rattle.body_cutter.specs.Bodies.{body_of};

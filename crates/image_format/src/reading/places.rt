@@ -1,6 +1,6 @@
 //! The trap sites, in the order of the text.
 
-ghost use Rattle.std.specs.Prelude.{◌≡◌, []};
+ghost use Rattle.std.specs.Prelude.{[]};
 ghost use Rattle.image_format.specs.Bounds.{bound_of};
 ghost use Rattle.image_format.specs.Reading.{Gives, each, at_most, trap_offset_at, place_at, places_at};
 
