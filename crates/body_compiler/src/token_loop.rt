@@ -46,7 +46,8 @@ pub trait TokenSink {
             → Tracks counted c last before check.old code front self.old → byte before ≡ Got (at, b) mid → instruction counted at b mid ≡ Got token.now after
             → OnOk result (Tracks counted c last after check.new code front self.new) × IfErr result (StopsReading c code) };
 
-    /// Does so with a plain instruction. The call of `take_read` has a function of its own, as in `take_closing`.
+    /// Checks and takes a plain instruction that was read at an offset (`take_read`). The call has a function of its own, as in
+    /// `take_closing`.
     fn take_plain_read(
         &mut self,
         check: &mut Check<'_>,
@@ -263,7 +264,7 @@ fn take_other<T: TokenSink>(
     }
 }
 
-/// Does so. The call has a function of its own, as in `take_closing`.
+/// Reads, checks and takes any other instruction (`take_other`). The call has a function of its own, as in `take_closing`.
 #[inline(always)]
 fn take_other_apart<T: TokenSink>(
     fields: &mut Fields<'_>,

@@ -44,7 +44,7 @@ pub(crate) fn stub_words(imported: u64) -> u128
     u128::from(EXIT_WORDS) + u128::from(STUB_WORDS) * u128::from(imported)
 }
 
-/// The same number, where an index has room for it.
+/// `stub_words`, where 32 bits have room for it.
 pub(crate) fn front_of(imported: usize) -> u32
     requires { front_of imported < 2 ^ 32 }
     ensures { result ≡ front_of imported }
@@ -52,7 +52,7 @@ pub(crate) fn front_of(imported: usize) -> u32
     stub_words(imported as u64) as u32
 }
 
-/// How many instruction words a text has before the codes, where so many functions are imported: the exit stub, and a stub for each.
+/// The room that the stubs take before the codes, in instruction words, where so many functions are imported (`stub_words`).
 pub fn words_before(imported: u32) -> usize
     ensures { result ≡ front_of imported }
 {
