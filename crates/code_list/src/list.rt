@@ -2,7 +2,7 @@
 
 ghost use Rattle.std.specs.Prelude.{◌≡◌, ◌<◌, ◌≤◌, ◌++◌, ◌∷◌, [], length, OnOk, OnErr};
 ghost use Rattle.std.specs.List.{between};
-ghost use Rattle.code_list.specs.CodeLists.{code_at, end_before, IsParts};
+ghost use Rattle.code_list.specs.CodeLists.{code_at, end_before, words_of, IsParts};
 
 use rv_isa::{Code, Relocation, TrapSite};
 use std::alloc::{AllocError, Global};
@@ -94,6 +94,34 @@ fn part<T>(items: &[T], begin: usize, end: usize) -> &[T]
     &items[begin..end]
 }
 
+/// The instruction words of a code.
+#[derive(Drop)]
+enum Words<'a> {
+    Lent(&'a [u32]),
+    Own(Vec<u32>),
+}
+
+/// Puts instruction words after others. Where the words are the more, the others are put before them, so that memory is wanted for the
+/// others alone.
+fn append_words(text: &mut Vec<u32>, words: Words<'_>) -> Result<(), AllocError>
+    ensures ok { OnOk result (text.new.items ≡ text.old.items ++ words_of words.entry) }
+    ensures err { OnErr result (text.new.items ≡ text.old.items) }
+{
+    match words {
+        Words::Lent(words) => text.extend_from_slice(words),
+        Words::Own(mut words) => {
+            let count = words.len();
+            if count <= text.len() {
+                return text.extend_from_slice(&words);
+            }
+            words.extend_from_slice(text)?;
+            words.rotate_left(count);
+            *text = words;
+            Ok(())
+        }
+    }
+}
+
 impl CodeList {
     /// No codes.
     pub fn new(alloc: Global) -> CodeList
@@ -124,27 +152,56 @@ impl CodeList {
         Ok(())
     }
 
-    /// One code more, after the others.
-    pub fn push(&mut self, code: &Code) -> Result<(), AllocError>
-        ensures ok { OnOk result (self.new ≡ self.old ++ code.now ∷ []) }
+    /// One code more, after the others: its instruction words, calls and traps, and the slots that it needs.
+    fn append(
+        &mut self,
+        words: Words<'_>,
+        calls: &[Relocation],
+        sites: &[TrapSite],
+        need: u32,
+    ) -> Result<(), AllocError>
+        ensures ok { OnOk result (self.new ≡ self.old ++ (record { words = words_of words.entry; relocations = calls.now; traps = sites.now; need = need }) ∷ []) }
         ensures err { OnErr result (self.new ≡ self.old) }
     {
-        let words = code.words.as_slice();
-        let calls = code.relocations.as_slice();
-        let sites = code.traps.as_slice();
         self.ends.reserve(1)?;
         self.calls.reserve(calls.len())?;
         self.sites.reserve(sites.len())?;
-        self.text.extend_from_slice(words)?;
+        append_words(&mut self.text, words)?;
         self.calls.extend_from_slice(calls)?;
         self.sites.extend_from_slice(sites)?;
         self.ends.push(CodeEnd {
             words: self.text.len(),
             calls: self.calls.len(),
             sites: self.sites.len(),
-            need: code.need,
+            need,
         })?;
         Ok(())
+    }
+
+    /// One code more, after the others.
+    pub fn push(&mut self, code: &Code) -> Result<(), AllocError>
+        ensures ok { OnOk result (self.new ≡ self.old ++ code.now ∷ []) }
+        ensures err { OnErr result (self.new ≡ self.old) }
+    {
+        self.append(
+            Words::Lent(code.words.as_slice()),
+            code.relocations.as_slice(),
+            code.traps.as_slice(),
+            code.need,
+        )
+    }
+
+    /// One code more, after the others. The words of a code that is longer than all others together don't stand twice.
+    pub fn push_own(&mut self, code: Code) -> Result<(), AllocError>
+        ensures ok { OnOk result (self.new ≡ self.old ++ code ∷ []) }
+        ensures err { OnErr result (self.new ≡ self.old) }
+    {
+        self.append(
+            Words::Own(code.words.into_vec()),
+            code.relocations.as_slice(),
+            code.traps.as_slice(),
+            code.need,
+        )
     }
 
     /// How many there are.

@@ -390,28 +390,28 @@ fn coded(alloc: Global) -> Result<Code, AllocError> {
     })
 }
 
-/// This code twice, behind three words.
+/// This code three times, behind two words.
 fn listed(alloc: Global) -> Result<CodeList, AllocError> {
-    let code = coded(alloc)?;
     let mut codes = CodeList::new(alloc);
-    codes.begin(3)?;
-    codes.push(&code)?;
-    codes.push(&code)?;
+    codes.begin(2)?;
+    codes.push_own(coded(alloc)?)?;
+    codes.push_own(coded(alloc)?)?;
+    codes.push(&coded(alloc)?)?;
     Ok(codes)
 }
 
 #[test]
 fn lists_codes(rt: HostRuntime) -> Result<(), Fail> {
     let codes = listed(rt.alloc())?;
-    assert_eq!(rt; codes.count(), 2);
-    if 1 < codes.count() {
-        let code = codes.get(1);
+    assert_eq!(rt; codes.count(), 3);
+    for index in 0..codes.count() {
+        let code = codes.get(index);
         assert_eq!(rt; code.words, [7, 5, 9].as_slice());
         assert_eq!(rt; code.traps.len(), 1);
     }
     let parts = codes.into_parts();
-    assert_eq!(rt; (parts.text.len(), parts.calls.len()), (9, 2));
-    assert_eq!(rt; (parts.begin.words, parts.ends.len()), (3, 2));
+    assert_eq!(rt; (parts.text.len(), parts.calls.len()), (11, 3));
+    assert_eq!(rt; (parts.begin.words, parts.ends.len()), (2, 3));
     Ok(())
 }
 

@@ -110,6 +110,28 @@ pub fn add_code(
     }
 }
 
+/// Takes the next body, whose code this is, as `add_code` does.
+fn add_own_code(
+    spaces: &ContextBuilder,
+    codes: &mut Codes,
+    body: BodyView<'_>,
+    code: Code,
+) -> Result<(), FrontStop>
+    requires can { CanTakeNext spaces.now codes.old (body_of body) }
+    requires code { TakesBody spaces.now codes.old.count (body_of body) (Ok code) }
+    ensures takes { TakesCode spaces.now codes.old (body_of body.entry) result codes.new }
+    ensures kept { KeepsAlike codes.old codes.new }
+{
+    match keep_limit(spaces, codes, body, code.words.as_slice().len() as u64) {
+        Ok(()) => {}
+        Err(stop) => return Err(stop),
+    }
+    match codes.add_own(spaces.context().imported(), code) {
+        Ok(()) => Ok(()),
+        Err(_) => Err(FrontStop::NoMemory),
+    }
+}
+
 /// Takes the next body, and keeps its code.
 fn keep_code<'a>(
     scratch: &mut Scratch<'a>,
@@ -122,7 +144,7 @@ fn keep_code<'a>(
     ensures kept { KeepsAlike codes.old codes.new }
 {
     match take_body(scratch, spaces, codes.count(), body) {
-        Ok(code) => add_code(spaces, codes, body, &code),
+        Ok(code) => add_own_code(spaces, codes, body, code),
         Err(stop) => Err(stop_at(body, stop)),
     }
 }

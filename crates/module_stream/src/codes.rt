@@ -66,6 +66,23 @@ impl Codes {
         Ok(())
     }
 
+    /// One code more, as `add` does; the words of a long one are kept as they are.
+    pub fn add_own(&mut self, imported: u32, code: Code) -> Result<(), AllocError>
+        requires count { self.old.count < 2 ^ 32 - 1 }
+        requires words { self.old.words + length code.words < 2 ^ 64 }
+        ensures ok { OnOk result (self.new ≡ with_code self.old code) }
+        ensures err { OnErr result (self.new ≡ self.old) }
+    {
+        let words = code.words.as_slice().len() as u64;
+        if let Some(codes) = &mut self.kept {
+            codes.begin(words_before(imported))?;
+            codes.push_own(code)?;
+        }
+        self.count += 1;
+        self.words += words;
+        Ok(())
+    }
+
     /// One code more of so many instruction words. Codes are only counted.
     pub fn count_words(&mut self, words: u64)
         requires none { self.old.kept ≡ None }
