@@ -29,7 +29,7 @@ use wasm_defs::{FrontStop, MAX_TEXT};
 const WORKER_BYTES: usize = 262_144;
 
 /// How many batches of a round there are for each worker.
-const WORKER_BATCHES: usize = 16;
+const WORKER_BATCHES: usize = 8;
 
 /// How many bytes of a round there are for each function.
 const FUNCTION_BYTES: usize = 16;
@@ -222,13 +222,6 @@ fn read_with_workers<R: Threads + Wait + Sync, S: Source, G: Gate>(
 
 /// How long a round is: so long that starting the workers, and making a cell for each function, costs little beside it.
 fn round_of(workers: u32, compilation: &Compilation) -> Round {
-    // Codes that are only counted take no memory, so all bodies are read in one round.
-    if !compilation.keeps_codes() {
-        return Round {
-            bytes: usize::MAX,
-            batches: 0,
-        };
-    }
     let workers = workers as usize;
     let functions = compilation.context().type_indices().len();
     let for_functions = functions.saturating_mul(FUNCTION_BYTES);
