@@ -1,6 +1,7 @@
 pub mod Bytes
 pub mod Chunks
 pub mod Crowds
+pub mod Halves
 pub mod Ending
 pub mod Errors
 pub mod Exclusive

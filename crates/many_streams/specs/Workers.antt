@@ -12,8 +12,8 @@ use Rattle.many_streams.specs.declared.streams.ManyStop.{ManyStop}
 use Rattle.many_streams.specs.declared.working.Made.{Made}
 use Rattle.many_streams.specs.declared.working.Done.{Done}
 use Rattle.many_streams.specs.Flows.{members_with}
-use Rattle.many_streams.specs.Many.{ComesToMany}
-use Rattle.many_streams.specs.Members.{IsEnded, AreRowsOf}
+use Rattle.many_streams.specs.Many.{AreEach, ComesToMany}
+use Rattle.many_streams.specs.Members.{IsEnded, IsJudged, AreRowsOf}
 
 -- the lane is of the open module of its number
 abbrev pub IsLaneOf : List Member → Lane → Type 0
@@ -53,6 +53,10 @@ pub record AreOpened (workers : ℕ) (members : List Member) (count : ℕ) (lane
 -- for each module what was made of its bodies: rows that are right for them
 abbrev pub AreMade : List Member → List Made → Type 0
 AreMade members made = (length made ≡ length members) × ((k : ℕ) (m : Member) (x : Made) → slice_get members k ≡ Some m → slice_get made k ≡ Some x → AreRowsOf x.cells x.rows.items m)
+
+-- modules that have ended come to these
+abbrev pub AreSettled : List Member → List Member → Type 0
+AreSettled members judged = (keeps : Bool) (list : List (List ℕ)) → AreEach (IsEnded keeps) list members → AreEach (IsJudged keeps) list judged
 
 -- the rest of the input was read; or it comes to nothing
 abbrev pub ComesBeside : Option (List ℕ) → ℕ → Option (List ℕ) → ℕ → Bool → List Member → Result Done ManyStop → Type 0

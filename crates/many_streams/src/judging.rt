@@ -5,8 +5,9 @@ ghost use Rattle.io_edges.specs.Streams.{TookFront};
 ghost use Rattle.many_streams.specs.Flows.{members_with, AreLent, AreWaiting};
 ghost use Rattle.many_streams.specs.Many.{AreEach, ComesToMany, view};
 ghost use Rattle.many_streams.specs.Members.{IsEnded, IsJudged};
+ghost use Rattle.std.specs.Thread.{IsSync};
 ghost use Rattle.many_streams.specs.Rests.{IsPaused};
-ghost use Rattle.many_streams.specs.Workers.{AreMade};
+ghost use Rattle.many_streams.specs.Workers.{AreMade, AreSettled};
 
 use crate::flow::Flow;
 use crate::member::Member;
@@ -16,7 +17,7 @@ use crate::working::{Done, Made, nothing_made, work_beside};
 use io_edges::{Gate, Source};
 use std::alloc::{AllocError, Global};
 use std::sync::Wait;
-use std::thread::Threads;
+use std::thread::{self, Threads};
 
 /// Judges modules that have ended, each with what workers made of its bodies. Err where memory ran out.
 fn settle_members(
@@ -26,8 +27,7 @@ fn settle_members(
 ) -> Result<Vec<Member>, AllocError>
     requires ended { (keeps : Bool) × (list : List (List ℕ)) × AreEach (IsEnded keeps) list members.items }
     requires made { AreMade members.items made.items }
-    ensures { IfOk result (λ v. (keeps : Bool) (list : List (List ℕ)) → AreEach (IsEnded keeps) list members.items
-        → AreEach (IsJudged keeps) list v.items) }
+    ensures { IfOk result (λ v. AreSettled members.items v.items) }
 {
     let mut judged = Vec::new(alloc);
     let mut rest = made.into_iter();
@@ -42,11 +42,53 @@ fn settle_members(
     Ok(judged)
 }
 
+/// Judges modules that have ended, as `settle_members` does, by the caller and so many other threads, each some of the modules: comparing,
+/// validating what is left and freeing takes time, and nothing of one module hangs on another.
+fn settle_beside<R: Threads + Sync>(
+    rt: &R,
+    alloc: Global,
+    members: Vec<Member>,
+    made: Vec<Made>,
+    others: u32,
+) -> Result<Vec<Member>, AllocError>
+    requires ended { (keeps : Bool) × (list : List (List ℕ)) × AreEach (IsEnded keeps) list members.items }
+    requires made { AreMade members.items made.items }
+    ensures { IfOk result (λ v. AreSettled members.items v.items) }
+{
+    let half = members.len() / 2;
+    if others == 0 || half == 0 {
+        return settle_members(alloc, members, made);
+    }
+    let (mut front, mut front_made) = (members, made);
+    let back = front.split_off(half)?;
+    let back_made = front_made.split_off(half)?;
+    let more = others / 2;
+    let fewer = others - 1 - more;
+    let (judged, rest) = thread::join(
+        rt,
+        move || -> Result<Vec<Member>, AllocError>
+            requires sync { IsSync R.row }
+            requires ended { (keeps : Bool) × (list : List (List ℕ)) × AreEach (IsEnded keeps) list front.items }
+            requires made { AreMade front.items front_made.items }
+            ensures { IfOk result (λ v. AreSettled front.items v.items) }
+        { settle_beside(rt, alloc, front, front_made, more) },
+        move || -> Result<Vec<Member>, AllocError>
+            requires sync { IsSync R.row }
+            requires ended { (keeps : Bool) × (list : List (List ℕ)) × AreEach (IsEnded keeps) list back.items }
+            requires made { AreMade back.items back_made.items }
+            ensures { IfOk result (λ v. AreSettled back.items v.items) }
+        { settle_beside(rt, alloc, back, back_made, fewer) },
+    );
+    let mut judged = judged?;
+    let mut rest = rest?;
+    judged.append(&mut rest)?;
+    Ok(judged)
+}
+
 /// Judges modules that have ended, on the caller's thread. Err where memory ran out.
 pub fn judge_ended(alloc: Global, members: Vec<Member>) -> Result<Vec<Member>, AllocError>
     requires { (keeps : Bool) × (list : List (List ℕ)) × AreEach (IsEnded keeps) list members.items }
-    ensures { IfOk result (λ v. (keeps : Bool) (list : List (List ℕ)) → AreEach (IsEnded keeps) list members.items
-        → AreEach (IsJudged keeps) list v.items) }
+    ensures { IfOk result (λ v. AreSettled members.items v.items) }
 {
     let made = nothing_made(alloc, members.as_slice())?;
     settle_members(alloc, members, made)
@@ -115,7 +157,7 @@ pub fn judge_beside<R: Threads + Wait + Sync, S: Source, G: Gate>(
         Ok(done) => {
             let Done { made, flows } = done;
             put_flows(&mut members, flows);
-            match settle_members(alloc, members, made) {
+            match settle_beside(rt, alloc, members, made, workers.saturating_sub(1)) {
                 Ok(judged) => Ok(judged),
                 Err(_) => Err(ManyStop::NoMemory),
             }
