@@ -160,7 +160,8 @@ impl CodeList {
         sites: &[TrapSite],
         need: u32,
     ) -> Result<(), AllocError>
-        ensures ok { OnOk result (self.new ≡ self.old ++ (record { words = words_of words.entry; relocations = calls.now; traps = sites.now; need = need }) ∷ []) }
+        ensures ok { OnOk result (self.new ≡ self.old
+            ++ (record { words = words_of words.entry; relocations = calls.now; traps = sites.now; need = need }) ∷ []) }
         ensures err { OnErr result (self.new ≡ self.old) }
     {
         self.ends.reserve(1)?;
