@@ -1,5 +1,5 @@
 use Rattle.std.proofs.Common.{◌≡◌, ◌/◌, List, Vec, Global, Result, Ok, IfOk, refl, subst, arith, rules, take, drop}
-use Rattle.core.specs.declared.alloc.AllocError.{AllocError}
+use Rattle.std.specs.declared.alloc.AllocError.{AllocError}
 use Rattle.many_streams.specs.Workers.{AreSettled}
 use Rattle.many_streams.specs.declared.member.Member.{Member}
 use Rattle.many_streams.specs.declared.working.Made.{Made}
