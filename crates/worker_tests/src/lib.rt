@@ -9,6 +9,8 @@ mod cells;
 #[cfg(test)]
 mod frames;
 #[cfg(test)]
+mod modules;
+#[cfg(test)]
 mod pools;
 #[cfg(test)]
 mod scopes;

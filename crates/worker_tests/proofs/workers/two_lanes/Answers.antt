@@ -1,8 +1,8 @@
-use Rattle.std.proofs.Common.{rules, arith, ◌≡◌, ◌≢◌, ◌∙◌, ℕ, zero, suc, [], ◌∷◌, Some, slice_get, refl, sym, ap, subst}
+use Rattle.std.proofs.Common.{rules, arith, ◌≡◌, ◌≢◌, ◌∙◌, ℕ, zero, suc, [], ◌∷◌, Some, slice_get, refl, sym, ap, subst, List}
 use Rattle.batch_pool.specs.declared.lanes.lane.Lane.{Lane}
 use Rattle.batch_pool.specs.declared.lanes.lane.LaneSeat.{LaneSeat}
 use Rattle.batch_pool.specs.Lanes.{AreSeated, AreApart}
-use Rattle.worker_tests.proofs.workers.told_of_lanes.Goals as goal
+use Rattle.worker_tests.proofs.workers.two_lanes.Goals as goal
 
 module _ (a b : Lane) (s t : LaneSeat) (first : s.seat.table ≡ a.board.table) (second : t.seat.table ≡ b.board.table) where
   tables : (k : ℕ) (l : Lane) (u : LaneSeat) → slice_get (a ∷ b ∷ []) k ≡ Some l → slice_get (s ∷ t ∷ []) k ≡ Some u → u.seat.table ≡ l.board.table
@@ -22,10 +22,19 @@ two_apart a b other zero (suc (suc k)) l m at bt same = absurd cc
 two_apart a b other (suc zero) (suc (suc k)) l m at bt same = absurd cc
 two_apart a b other (suc (suc j)) k l m at bt same = absurd cc
 
-pub work_many-worked-requires-clause-seats : goal.work_many-worked-requires-clause-seats
-work_many-worked-requires-clause-seats g c = λ κs lives.
-    let all : c.in_ok-seats.seats.items ≡ c.in_ok-one.first ∷ c.in_ok-two.second ∷ [] = search rules in
-    subst (AreSeated (c.in_ok-one.one ∷ c.in_ok-two.two ∷ [])) (sym all) (two_seated c.in_ok-one.one c.in_ok-two.two c.in_ok-one.first c.in_ok-two.second c.in_ok-one.ensures.table c.in_ok-two.ensures.table)
+pub returns-clause-seated : goal.returns-clause-seated
+returns-clause-seated c =
+    let a = c.in_ok-three.three in
+    let b = c.in_ok-seven.seven in
+    let s = c.in_ok-three.first in
+    let t = c.in_ok-seven.second in
+    let lanes : c.in_ok-lanes.lanes.items ≡ a ∷ b ∷ [] = search rules in
+    let seats : c.in_ok-seats.seats.items ≡ s ∷ t ∷ [] = search rules in
+    subst (λ (z : List Lane × List LaneSeat). AreSeated z.0 z.1) (λ i. (sym lanes i, sym seats i)) (two_seated a b s t c.in_ok-three.ensures.table c.in_ok-seven.ensures.table)
 
-pub work_many-worked-requires-clause-apart : goal.work_many-worked-requires-clause-apart
-work_many-worked-requires-clause-apart g c = λ κs lives. two_apart c.in_ok-one.one c.in_ok-two.two (λ same. absurd (omega (arith, c.in_ok-one.ensures.«module», c.in_ok-two.ensures.«module», same)))
+pub returns-clause-apart : goal.returns-clause-apart
+returns-clause-apart c =
+    let a = c.in_ok-three.three in
+    let b = c.in_ok-seven.seven in
+    let lanes : c.in_ok-lanes.lanes.items ≡ a ∷ b ∷ [] = search rules in
+    subst AreApart (sym lanes) (two_apart a b (λ same. absurd (omega (arith, c.in_ok-three.ensures.«module», c.in_ok-seven.ensures.«module», same))))
