@@ -3,44 +3,65 @@ ghost use Rattle.std.specs.Prelude.{◌≡◌, ◌^◌, ◌<◌, ◌≤◌, leng
 ghost use Rattle.std.specs.Thread.{IsSync};
 ghost use Rattle.cancel_drain.specs.Views.{first_view};
 
-use cancel_drain::{Board, BoardSeat, Claim, Drained, States};
+use cancel_drain::{Board, BoardSeat, Claim, Closed, Drained, States};
 use std::test::Fail;
 use std::thread;
 use std::thread::Threads;
 use wasm_defs::{Kind, Refusal};
+
+const FAULT: Refusal = Refusal {
+    offset: 25,
+    kind: Kind::Invalid,
+};
+
+// Runs batch 0, which has an error, and answers whether it is seen then, and none was before.
+fn run_into_fault(board: &Board, seat: &mut BoardSeat) -> bool
+    requires table { seat.old.table ≡ board.now.table }
+    requires room { 3 ≤ board.now.functions }
+    ensures table { seat.new.table ≡ seat.old.table }
+    ensures parts { seat.new.view.parts ≡ seat.old.view.parts }
+{
+    let before = board.look(seat);
+    let drained = board.drain(seat, 1, 30);
+    if board.claim(seat, 0, 20) == Claim::Won {
+        board.report(seat, FAULT);
+        board.finish(seat, 0, 20);
+    }
+    let after = board.look(seat);
+    before == u64::MAX && drained == Drained::NotBehind && after == 203
+}
+
+// Whether batch 0 can't be claimed again, and batch 1 is drained.
+fn is_behind(board: &Board, seat: &mut BoardSeat) -> bool
+    requires table { seat.old.table ≡ board.now.table }
+    requires room { 3 ≤ board.now.functions }
+    ensures table { seat.new.table ≡ seat.old.table }
+    ensures parts { seat.new.view.parts ≡ seat.old.view.parts }
+{
+    let claimed = board.claim(seat, 0, 20);
+    let drained = board.drain(seat, 1, 30);
+    claimed == Claim::Lost && drained == Drained::Yes
+}
+
+// Whether the error is the least, and the words are those of a batch that is done, one that is drained, and one that never waited.
+fn is_drained(closed: &Closed) -> bool
+    requires { 3 ≤ length closed.now.states }
+{
+    let states = &closed.states;
+    let words = states.word(0) == 163 && states.word(1) == 244 && states.word(2) == 0;
+    words && closed.least == Some(FAULT)
+}
 
 #[test]
 fn batches_behind_a_fault_are_drained(rt: HostRuntime) -> Result<(), Fail> {
     let (board, mut seat) = Board::new(rt.alloc(), 3, 1)?;
     board.publish(&mut seat, 0, 20);
     board.publish(&mut seat, 1, 30);
-    assert!(rt; board.look(&mut seat) == u64::MAX);
-    assert!(rt; board.drain(&mut seat, 1, 30) == Drained::NotBehind);
-    if board.claim(&mut seat, 0, 20) == Claim::Won {
-        board.report(
-            &mut seat,
-            Refusal {
-                offset: 25,
-                kind: Kind::Invalid,
-            },
-        );
-        board.finish(&mut seat, 0, 20);
-    }
-    assert!(rt; board.look(&mut seat) == 203);
-    assert!(rt; board.claim(&mut seat, 0, 20) == Claim::Lost);
-    assert!(rt; board.drain(&mut seat, 1, 30) == Drained::Yes);
+    assert!(rt; run_into_fault(&board, &mut seat));
+    assert!(rt; is_behind(&board, &mut seat));
     assert!(rt; seat.parts() == 1 && board.functions() == 3);
     let closed = board.close(seat);
-    assert!(rt;
-        closed.least
-            == Some(Refusal {
-                offset: 25,
-                kind: Kind::Invalid
-            })
-    );
-    assert!(rt; closed.states.word(0) == 163);
-    assert!(rt; closed.states.word(1) == 244);
-    assert!(rt; closed.states.word(2) == 0);
+    assert!(rt; is_drained(&closed));
     Ok(())
 }
 
@@ -178,22 +199,28 @@ fn each_batch_is_done_once(rt: HostRuntime) -> Result<(), Fail> {
     Ok(())
 }
 
+// Whether all batches up to that with the error are done, and each after it is done or drained, where so many were run.
+fn is_split_at_fault(closed: &Closed, ran: u32) -> bool
+    requires { 10000 ≤ length closed.now.states }
+{
+    let least = Refusal {
+        offset: 5_001,
+        kind: Kind::Invalid,
+    };
+    let done = count(&closed.states, BATCHES, 3);
+    let drained = count(&closed.states, BATCHES, 4);
+    closed.least == Some(least)
+        && count(&closed.states, 5_001, 3) == 5_001
+        && done == ran
+        && done.wrapping_add(drained) == BATCHES
+}
+
 #[test]
 fn what_is_drained_lies_behind_the_fault(rt: HostRuntime) -> Result<(), Fail> {
     let (board, mut seat) = Board::new(rt.alloc(), BATCHES, SEATS)?;
     publish_all(&board, &mut seat);
     let (seat, ran) = work_together(&rt, &board, seat, 7, 5_000);
     let closed = board.close(seat);
-    assert!(rt;
-        closed.least
-            == Some(Refusal {
-                offset: 5_001,
-                kind: Kind::Invalid
-            })
-    );
-    let done = count(&closed.states, BATCHES, 3);
-    let drained = count(&closed.states, BATCHES, 4);
-    assert!(rt; count(&closed.states, 5_001, 3) == 5_001);
-    assert!(rt; done == ran && done.wrapping_add(drained) == BATCHES);
+    assert!(rt; is_split_at_fault(&closed, ran));
     Ok(())
 }

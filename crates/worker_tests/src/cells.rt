@@ -1,7 +1,7 @@
 //! Cells that are set by one thread and by two.
-ghost use Rattle.std.specs.Prelude.{◌<◌, length};
+ghost use Rattle.std.specs.Prelude.{◌≡◌, ◌<◌, length, slice_index};
 
-use result_cells::{Cells, Put};
+use result_cells::{CellNote, Cells, Put};
 use rv_isa::{Code, Relocations, TrapSites, Words};
 use std::alloc::{AllocError, Global};
 use std::sync::Arc;
@@ -26,67 +26,113 @@ fn is_placed(put: &Put<'_>) -> bool {
     matches!(put, Put::Placed)
 }
 
-#[test]
-fn first_code_stays(rt: HostRuntime) -> Result<(), Fail> {
-    let alloc: Global = rt.alloc();
-    let cells = Cells::new(alloc, 2, 3)?;
-    assert!(rt; cells.count() == 2);
+// Puts a code into a cell, and answers whether it is the one that is held.
+fn put(
+    cells: &Cells,
+    index: u32,
+    note: &mut CellNote,
+    code: &Arc<Code, Global>,
+) -> Result<bool, AllocError>
+    requires index { index < length cells.now.names }
+    requires cell { note.old.cell ≡ slice_index cells.now.names index }
+    ensures { note.new.cell ≡ note.old.cell }
+{
+    let put = cells.put(index, note, code)?;
+    Ok(is_placed(&put))
+}
+
+// Whether another note of cell 1 finds this code there.
+fn holds(cells: &Cells, note: &mut CellNote, code: &Arc<Code, Global>) -> bool
+    requires index { 1 < length cells.now.names }
+    requires cell { note.old.cell ≡ slice_index cells.now.names 1 }
+{
+    let mut other = cells.note(1);
+    let same = match cells.get(1, &mut other) {
+        Some(held) => held.is_same(code),
+        None => false,
+    };
+    let known = cells.get(1, &mut other).is_some();
+    note.compare(other);
+    same && known
+}
+
+// Whether the first of two codes is held, which is put twice, and stays where the second is put.
+fn first_stays(
+    cells: &Cells,
+    first: &Arc<Code, Global>,
+    second: &Arc<Code, Global>,
+) -> Result<bool, AllocError>
+    requires { 1 < length cells.now.names }
+{
     let mut note = cells.note(1);
-    assert!(rt; cells.get(1, &mut note).is_none());
+    let empty = cells.get(1, &mut note).is_none();
+    let placed = put(cells, 1, &mut note, first)?;
+    let again = put(cells, 1, &mut note, first)?;
+    let replaced = put(cells, 1, &mut note, second)?;
+    Ok(empty && placed && again && !replaced && holds(cells, &mut note, first))
+}
+
+fn put_two(alloc: Global, cells: &Cells) -> Result<bool, AllocError>
+    requires { 1 < length cells.now.names }
+{
     let first = code(alloc, 7)?;
     let second = code(alloc, 9)?;
-    assert!(rt; is_placed(&cells.put(1, &mut note, &first)?));
-    assert!(rt; is_placed(&cells.put(1, &mut note, &first)?));
-    assert!(rt; !is_placed(&cells.put(1, &mut note, &second)?));
-    let mut other = cells.note(1);
-    if let Some(held) = cells.get(1, &mut other) {
-        assert!(rt; held.is_same(&first));
-    }
-    assert!(rt; cells.get(1, &mut other).is_some());
-    note.compare(other);
+    first_stays(cells, &first, &second)
+}
+
+#[test]
+fn first_code_stays(rt: HostRuntime) -> Result<(), Fail> {
+    let cells = Cells::new(rt.alloc(), 2, 3)?;
+    assert!(rt; cells.count() == 2);
+    assert!(rt; put_two(rt.alloc(), &cells)?);
     Ok(())
 }
 
 // Whether this thread's code is the one that is held.
-fn offer(cells: &Cells, mine: Arc<Code, Global>) -> Result<bool, AllocError>
+fn offer(alloc: Global, cells: &Cells, word: u32) -> Result<bool, AllocError>
     requires { 0 < length cells.now.names }
 {
+    let mine = code(alloc, word)?;
     let mut note = cells.note(0);
-    let put = cells.put(0, &mut note, &mine)?;
-    Ok(is_placed(&put))
+    put(cells, 0, &mut note, &mine)
 }
 
 #[test]
 fn one_of_two_is_held(rt: HostRuntime) -> Result<(), Fail> {
     let alloc: Global = rt.alloc();
     let cells = Cells::new(alloc, 1, 2)?;
-    let one = code(alloc, 1)?;
-    let two = code(alloc, 2)?;
     let shared = &cells;
     let (first, second) = thread::join(
         &rt,
         move ||
             requires { 0 < length shared.now.names }
-        { offer(shared, one) },
+        { offer(alloc, shared, 1) },
         move ||
             requires { 0 < length shared.now.names }
-        { offer(shared, two) },
+        { offer(alloc, shared, 2) },
     );
     assert!(rt; first? != second?);
     Ok(())
 }
 
+// Room for three words is taken word by word, while some is left.
+fn takes_all(cells: &Cells) -> bool {
+    cells.take_room(2).is_ok()
+        && cells.exhausted().is_none()
+        && cells.take_room(1).is_ok()
+        && cells.exhausted().is_some()
+}
+
+// Where more is asked for than is left, nothing is left.
+fn takes_too_much(cells: &Cells) -> bool {
+    cells.take_room(u64::MAX).is_err() && cells.exhausted().is_some() && cells.take_room(1).is_err()
+}
+
 #[test]
 fn room_is_taken_while_as_much_is_left(rt: HostRuntime) -> Result<(), Fail> {
-    let alloc: Global = rt.alloc();
-    let cells = Cells::new(alloc, 2, 3)?;
-    assert!(rt; cells.take_room(2).is_ok());
-    assert!(rt; cells.exhausted().is_none());
-    assert!(rt; cells.take_room(1).is_ok());
-    assert!(rt; cells.exhausted().is_some());
-    let others = Cells::new(alloc, 2, 3)?;
-    assert!(rt; others.take_room(u64::MAX).is_err());
-    assert!(rt; others.exhausted().is_some());
-    assert!(rt; others.take_room(1).is_err());
+    let cells = Cells::new(rt.alloc(), 2, 3)?;
+    assert!(rt; takes_all(&cells));
+    let others = Cells::new(rt.alloc(), 2, 3)?;
+    assert!(rt; takes_too_much(&others));
     Ok(())
 }

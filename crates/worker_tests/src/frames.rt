@@ -2,6 +2,7 @@
 ghost use Rattle.std.specs.Prelude.{◌<◌};
 
 use many_streams::{FrameReader, MAX_MODULES};
+use std::alloc::{AllocError, Global};
 use std::test::Fail;
 
 /// The offset of an input's error, where it is read in pieces of so many bytes; none where it is frames.
@@ -81,15 +82,26 @@ fn errors_have_offsets(rt: HostRuntime) -> Result<(), Fail> {
     Ok(())
 }
 
-#[test]
-fn modules_that_never_begin(rt: HostRuntime) -> Result<(), Fail> {
-    let mut bytes = vec![in rt.alloc(); 64u8, 0, 0, 0]?;
+/// The ends of as many modules as there may be, but that of the one with index 0.
+fn ends(alloc: Global) -> Result<Vec<u8>, AllocError> {
+    let mut bytes = vec![in alloc; 64u8, 0, 0, 0]?;
     for index in 1..MAX_MODULES {
         bytes.extend_from_slice(&index.to_le_bytes())?;
         bytes.extend_from_slice(&[0; 4])?;
     }
-    assert_eq!(rt; error_of(&bytes, 7), Some(508));
+    Ok(bytes)
+}
+
+/// The same with that one's end, which comes last.
+fn all_ends(alloc: Global) -> Result<Vec<u8>, AllocError> {
+    let mut bytes = ends(alloc)?;
     bytes.extend_from_slice(&[0; 8])?;
-    assert_eq!(rt; error_of(&bytes, 7), None);
+    Ok(bytes)
+}
+
+#[test]
+fn modules_that_never_begin(rt: HostRuntime) -> Result<(), Fail> {
+    assert!(rt; error_of(&ends(rt.alloc())?, 7) == Some(508));
+    assert!(rt; error_of(&all_ends(rt.alloc())?, 7).is_none());
     Ok(())
 }

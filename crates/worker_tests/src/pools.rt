@@ -100,65 +100,102 @@ fn feed_slowly<R: Wait>(
     Ok(())
 }
 
+// Whether one hand takes 100 tickets of a closed pool.
+fn takes_all<R: Wait>(rt: &R, alloc: Global) -> Result<bool, AllocError> {
+    let (feeder, mut hands) = Pool::new(alloc, 1)?;
+    let has_room = feeder.room() >= 1;
+    let fed = feed(alloc, feeder, 100)?;
+    match hands.pop() {
+        Some(hand) => {
+            let found = take_all(rt, hand, &AtomicU64::new(0));
+            Ok(has_room && fed && found == (100, 4950))
+        }
+        None => Ok(false),
+    }
+}
+
 #[test]
 fn one_hand_takes_all(rt: HostRuntime) -> Result<(), Fail> {
-    let (feeder, mut hands) = Pool::new(rt.alloc(), 1)?;
-    assert!(rt; feeder.room() >= 1);
-    assert!(rt; feed(rt.alloc(), feeder, 100)?);
-    let hand = hands.pop().expect(&rt, "one hand");
-    assert!(rt; take_all(&rt, hand, &AtomicU64::new(0)) == (100, 4950));
+    assert!(rt; takes_all(&rt, rt.alloc())?);
     Ok(())
+}
+
+// Whether these hands take each of 10,000 tickets once.
+fn take_once<R: Threads + Wait + Sync>(
+    rt: &R,
+    alloc: Global,
+    feeder: Feeder,
+    hands: Vec<Hand>,
+) -> Result<bool, AllocError> {
+    let taken = AtomicU64::new(0);
+    let (fed, found) = thread::join(
+        rt,
+        || feed(alloc, feeder, 10_000),
+        || take_together(rt, hands, &taken),
+    );
+    Ok(fed? && found? == (10_000, 49_995_000))
 }
 
 #[test]
 fn eight_hands_take_each_ticket_once(rt: HostRuntime) -> Result<(), Fail> {
-    let alloc: Global = rt.alloc();
-    let (feeder, hands) = Pool::new(alloc, 8)?;
-    let (r, taken) = (&rt, AtomicU64::new(0));
-    let (fed, found) = thread::join(
-        r,
-        || feed(alloc, feeder, 10_000),
-        || take_together(r, hands, &taken),
-    );
-    assert!(rt; fed?);
-    assert!(rt; found? == (10_000, 49_995_000));
+    let (feeder, hands) = Pool::new(rt.alloc(), 8)?;
+    assert!(rt; take_once(&rt, rt.alloc(), feeder, hands)?);
     Ok(())
+}
+
+// Whether the other hand takes 40 tickets while a busy one waits for that.
+fn steals_all<R: Threads + Wait + Sync>(rt: &R, busy: Hand, other: Hand) -> bool {
+    let taken = AtomicU64::new(0);
+    let (left, stolen) = thread::join(
+        rt,
+        || {
+            wait_until(rt, &taken, 40);
+            take_all(rt, busy, &taken)
+        },
+        || take_all(rt, other, &taken),
+    );
+    left == (0, 0) && stolen.0 == 40
+}
+
+// The same of a hand that took the first of 41 tickets.
+fn is_stolen_from<R: Threads + Wait + Sync>(rt: &R, alloc: Global) -> Result<bool, AllocError> {
+    let (mut feeder, mut hands) = Pool::new(alloc, 2)?;
+    let fed = put_all(alloc, &mut feeder, 41)?;
+    match (hands.pop(), hands.pop()) {
+        (Some(other), Some(mut busy)) => {
+            let first = busy.take(rt).is_some();
+            feeder.close();
+            Ok(fed && first && steals_all(rt, busy, other))
+        }
+        _ => Ok(false),
+    }
 }
 
 #[test]
 fn a_busy_hand_is_stolen_from(rt: HostRuntime) -> Result<(), Fail> {
-    let alloc: Global = rt.alloc();
-    let (mut feeder, mut hands) = Pool::new(alloc, 2)?;
-    let other = hands.pop().expect(&rt, "two hands");
-    let mut busy = hands.pop().expect(&rt, "two hands");
-    let fed = put_all(alloc, &mut feeder, 41);
-    let first = busy.take(&rt).is_some();
-    feeder.close();
-    assert!(rt; fed? && first);
-    let (r, taken) = (&rt, AtomicU64::new(0));
-    let (left, stolen) = thread::join(
-        r,
-        || {
-            wait_until(r, &taken, 40);
-            take_all(r, busy, &taken)
-        },
-        || take_all(r, other, &taken),
-    );
-    assert!(rt; left == (0, 0) && stolen.0 == 40);
+    assert!(rt; is_stolen_from(&rt, rt.alloc())?);
     Ok(())
+}
+
+// Whether these hands take 100 tickets, each of which is put once those before it were taken.
+fn take_slowly<R: Threads + Wait + Sync>(
+    rt: &R,
+    alloc: Global,
+    feeder: Feeder,
+    hands: Vec<Hand>,
+) -> Result<bool, AllocError> {
+    let taken = AtomicU64::new(0);
+    let (fed, found) = thread::join(
+        rt,
+        || feed_slowly(rt, alloc, feeder, 100, &taken),
+        || take_together(rt, hands, &taken),
+    );
+    Ok(fed.is_ok() && found? == (100, 4950))
 }
 
 #[test]
 fn parked_hands_are_woken_and_return(rt: HostRuntime) -> Result<(), Fail> {
-    let alloc: Global = rt.alloc();
-    let (feeder, hands) = Pool::new(alloc, 8)?;
-    let (r, taken) = (&rt, AtomicU64::new(0));
-    let (fed, found) = thread::join(
-        r,
-        || feed_slowly(r, alloc, feeder, 100, &taken),
-        || take_together(r, hands, &taken),
-    );
-    assert!(rt; fed.is_ok());
-    assert!(rt; found? == (100, 4950));
+    let (feeder, hands) = Pool::new(rt.alloc(), 8)?;
+    assert!(rt; take_slowly(&rt, rt.alloc(), feeder, hands)?);
     Ok(())
 }
