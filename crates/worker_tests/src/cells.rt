@@ -115,24 +115,23 @@ fn one_of_two_is_held(rt: HostRuntime) -> Result<(), Fail> {
     Ok(())
 }
 
-// Room for three words is taken word by word, while some is left.
-fn takes_all(cells: &Cells) -> bool {
-    cells.take_room(2).is_ok()
-        && cells.exhausted().is_none()
-        && cells.take_room(1).is_ok()
-        && cells.exhausted().is_some()
+// Room for three words is taken, while some is left.
+fn takes_all(alloc: Global) -> Result<bool, AllocError> {
+    let cells = Cells::new(alloc, 2, 3)?;
+    let some = cells.take_room(2).is_ok() && cells.exhausted().is_none();
+    Ok(some && cells.take_room(1).is_ok() && cells.exhausted().is_some())
 }
 
 // Where more is asked for than is left, nothing is left.
-fn takes_too_much(cells: &Cells) -> bool {
-    cells.take_room(u64::MAX).is_err() && cells.exhausted().is_some() && cells.take_room(1).is_err()
+fn takes_too_much(alloc: Global) -> Result<bool, AllocError> {
+    let cells = Cells::new(alloc, 2, 3)?;
+    let none = cells.take_room(u64::MAX).is_err() && cells.exhausted().is_some();
+    Ok(none && cells.take_room(1).is_err())
 }
 
 #[test]
 fn room_is_taken_while_as_much_is_left(rt: HostRuntime) -> Result<(), Fail> {
-    let cells = Cells::new(rt.alloc(), 2, 3)?;
-    assert!(rt; takes_all(&cells));
-    let others = Cells::new(rt.alloc(), 2, 3)?;
-    assert!(rt; takes_too_much(&others));
+    assert!(rt; takes_all(rt.alloc())?);
+    assert!(rt; takes_too_much(rt.alloc())?);
     Ok(())
 }

@@ -158,15 +158,23 @@ fn steals_all<R: Threads + Wait + Sync>(rt: &R, busy: Hand, other: Hand) -> bool
 }
 
 // The same of a hand that took the first of 41 tickets.
-fn is_stolen_from<R: Threads + Wait + Sync>(rt: &R, alloc: Global) -> Result<bool, AllocError> {
-    let (mut feeder, mut hands) = Pool::new(alloc, 2)?;
+fn fill_and_steal<R: Threads + Wait + Sync>(
+    rt: &R,
+    alloc: Global,
+    mut feeder: Feeder,
+    mut busy: Hand,
+    other: Hand,
+) -> Result<bool, AllocError> {
     let fed = put_all(alloc, &mut feeder, 41)?;
+    let first = busy.take(rt).is_some();
+    feeder.close();
+    Ok(fed && first && steals_all(rt, busy, other))
+}
+
+fn is_stolen_from<R: Threads + Wait + Sync>(rt: &R, alloc: Global) -> Result<bool, AllocError> {
+    let (feeder, mut hands) = Pool::new(alloc, 2)?;
     match (hands.pop(), hands.pop()) {
-        (Some(other), Some(mut busy)) => {
-            let first = busy.take(rt).is_some();
-            feeder.close();
-            Ok(fed && first && steals_all(rt, busy, other))
-        }
+        (Some(other), Some(busy)) => fill_and_steal(rt, alloc, feeder, busy, other),
         _ => Ok(false),
     }
 }

@@ -203,6 +203,7 @@ fn is_right(outcome: &Outcome, workers: u32) -> bool
         && are_rows(outcome.rows.as_slice())
 }
 
+// Whether 0, 1, 4 and 16 workers do.
 fn find_least<R: Threads + Wait + Sync>(
     rt: &R,
     alloc: Global,

@@ -100,8 +100,8 @@ fn board_of_two(alloc: Global, parts: u64) -> Result<(Board, BoardSeat), AllocEr
     Ok((board, seat))
 }
 
-// Whether the first batch was done, and whether its error was reported, if it has one. A word of the board is eight times the batch's
-// start, and 3 where the batch is done, or 4 where it is drained. The second batch's word is given.
+// Whether the first batch is done, the second one's word is this one, and the least error is that of the first, if it has one. A word of
+// the board is eight times the batch's start, and 3 where the batch is done, or 4 where it is drained.
 fn is_left(closed: &Closed, is_faulty: bool, second: u64) -> bool
     requires { 2 ≤ length closed.now.states }
 {
@@ -137,7 +137,7 @@ fn has_codes(codes: &[RowCode], want: Want) -> bool {
     }
 }
 
-// Whether a row is that of the batch of this number, and as it is wanted.
+// Whether a row is that of the batch of this number, and as is wanted.
 fn is_row(row: &Row, number: u32, want: Want) -> bool {
     let fault = match want {
         Want::Faulty => Some(FAULT),
@@ -189,7 +189,7 @@ fn serve<R: Threads + Wait + Sync, G: Gate>(
     work(rt, &mut hand, board, seat, compiler)
 }
 
-// Whether one worker leaves the board of two batches, and their rows, as it is wanted.
+// Whether one worker leaves the board of two batches, and their rows, as is wanted.
 fn serves<R: Threads + Wait + Sync>(
     rt: &R,
     hand: Hand,
@@ -269,6 +269,7 @@ fn serve_beside<R: Threads + Wait + Sync>(
 {
     let (one, two) = hands;
     let other = board.split(&mut seat);
+    // A closure that holds the compiler itself tells nothing of its result.
     let (alloc, x, c, g) = (
         compiler.alloc,
         compiler.context,
@@ -309,7 +310,7 @@ fn are_both_done(board: Board, first: Worked, second: Worked) -> bool
     have_one && !starved && is_left(&closed, true, 219)
 }
 
-// The gate holds the first batch, which has an error, until the second has finished.
+// Whether two workers do both batches, where the gate holds the first, which has an error, until the second has finished.
 fn run_beside<R: Threads + Wait + Sync>(
     rt: &R,
     alloc: Global,
@@ -333,6 +334,7 @@ fn two_hands(alloc: Global) -> Result<(Hand, Hand), Fail> {
     }
 }
 
+// The same with the two batches of a pool.
 fn run_two<R: Threads + Wait + Sync>(
     rt: &R,
     alloc: Global,
