@@ -115,6 +115,7 @@ fn made_of(
     requires { IsRowIf spaces.now cells.now row }
     ensures { AreFront spaces.now cells.now bodies.now (reverse result.items) }
 {
+    // (the contract alone needs these two)
     let _ = spaces;
     let _ = cells;
     let Some(row) = row else {
@@ -139,6 +140,7 @@ fn row_of(
     ensures row { IsRowIf spaces.now cells.now result }
     ensures rows { All (IsRowIf spaces.now cells.now) rows.new.items }
 {
+    // (the contract alone needs these two)
     let _ = spaces;
     let _ = cells;
     let number = number as usize;

@@ -44,6 +44,7 @@ impl Desk {
         ensures seat { result.seat ≡ seat }
         ensures of_module { result.module ≡ «module» }
     {
+        // (the contract alone needs these two)
         let _ = board;
         let _ = context;
         Desk {
@@ -102,6 +103,7 @@ impl Desk {
         ensures looked { self.new ≡ record self.old { seat = record self.old.seat { view = looks self.old.seat.view self.new.seat.view.seen } } }
         ensures fresh { IsFresh self.old.seat.view self.new.seat.view.seen }
     {
+        // (the contract alone needs it)
         let _ = context;
         board.look(&mut self.seat) != u64::MAX
     }

@@ -28,6 +28,7 @@ pub fn take_in(
     ensures parts { seat.new.view.parts ≡ seat.old.view.parts + 1 }
     ensures gathers { IfSome result (λ _. Gathers context.now cells.now seat.old.view seat.new.view rows.old.items rows.new.items) }
 {
+    // (the contract alone needs these two)
     let _ = context;
     let _ = cells;
     let Worked {

@@ -19,6 +19,7 @@ fn places(
     ensures count { IfOk result (λ v. length v.items ≡ count) }
     ensures empty { IfOk result (λ v. All (λ p. p ≡ None) v.items) }
 {
+    // (the contract alone needs these two)
     let _ = context;
     let _ = cells;
     let mut places = Vec::new(alloc);

@@ -34,6 +34,7 @@ pub fn keep(
     ensures kept { OnOk result (AreKept context.now board.now.functions seat.new.view.published kept.new.items) }
     ensures err { OnErr result ((seat.new ≡ seat.old) × (kept.new.items ≡ kept.old.items)) }
 {
+    // (the contract alone needs it)
     let _ = context;
     kept.reserve(1)?;
     board.publish(seat, ticket.number, ticket.start);
