@@ -4,19 +4,19 @@ use Rattle.std.specs.Prelude.{IfSome, IfNone}
 use Rattle.std.proofs.lemmas.Bool.{le-leb, lt-leb}
 use Rattle.std.proofs.lemmas.List.{append-nil}
 use Rattle.std.proofs.lemmas.List.Elements.{All-head, All-tail}
-use Rattle.body_cutter.specs.Bodies.{Body, Block, bytes_of, all_bytes, bytes_in, body_at}
+use Rattle.body_cutter.specs.Bodies.{Body, Block, byte_count, all_bytes, bytes_in, body_at}
 use Rattle.body_cutter.specs.Queues.{Queue, with_begun, batch_length, starts_at, joined, IsFull, IsLast, AreFew}
 use Rattle.body_cutter.specs.declared.queue.Waiting.{Waiting}
 use Rattle.body_cutter.specs.Held.{last_of, IsLastIf}
 
 -- ---- how many bodies the first batch has
 
-few_bytes : (least : ℕ) (x : Body) (bodies : List Body) → AreFew least (x ∷ bodies) → bytes_of (x ∷ bodies) < least
+few_bytes : (least : ℕ) (x : Body) (bodies : List Body) → AreFew least (x ∷ bodies) → byte_count (x ∷ bodies) < least
 few_bytes least x bodies (inl e) = absurd (omega (arith, ap length e))
 few_bytes least x bodies (inr lt) = lt
 
 -- up to the body with which there are enough bytes
-full_length : (least : ℕ) (before : List Body) (body : Body) → AreFew least before → least ≤ bytes_of (before ++ body ∷ []) → (bodies : List Body)
+full_length : (least : ℕ) (before : List Body) (body : Body) → AreFew least before → least ≤ byte_count (before ++ body ∷ []) → (bodies : List Body)
     → batch_length least ((before ++ body ∷ []) ++ bodies) ≡ length (before ++ body ∷ [])
 full_length least [] body few enough bodies = let e : leb least (length body.bytes) ≡ true = le-leb least (length body.bytes) (omega (arith, enough)) in rw e refl
 full_length least (x ∷ before) body few enough bodies =
@@ -24,7 +24,7 @@ full_length least (x ∷ before) body few enough bodies =
     let e : leb least (length x.bytes) ≡ false = lt-leb least (length x.bytes) (omega (arith, lt)) in
     rw e (ap suc (full_length (least - length x.bytes) before body (inr (omega (arith, lt))) (omega (arith, enough)) bodies))
 
-pub is_full : (least : ℕ) (before : List Body) (body : Body) → AreFew least before → least ≤ bytes_of (before ++ body ∷ []) → IsFull least (before ++ body ∷ [])
+pub is_full : (least : ℕ) (before : List Body) (body : Body) → AreFew least before → least ≤ byte_count (before ++ body ∷ []) → IsFull least (before ++ body ∷ [])
 is_full least before body few enough = record { some = omega (arith, length-append before (body ∷ [])); first = full_length least before body few enough }
 
 few_length : (least : ℕ) (bodies : List Body) → AreFew least bodies → batch_length least bodies ≡ length bodies
@@ -53,20 +53,20 @@ pub all_bytes_push : (xs : List Body) (b : Body) → all_bytes (xs ++ b ∷ []) 
 all_bytes_push [] b = append-nil b.bytes
 all_bytes_push (x ∷ xs) b = ap (λ (l : List ℕ). x.bytes ++ l) (all_bytes_push xs b) ∙ sym (append_assoc x.bytes (all_bytes xs) b.bytes)
 
-length_all_bytes : (xs : List Body) → length (all_bytes xs) ≡ bytes_of xs
+length_all_bytes : (xs : List Body) → length (all_bytes xs) ≡ byte_count xs
 length_all_bytes [] = refl
 length_all_bytes (x ∷ xs) = omega (arith, length-append x.bytes (all_bytes xs), length_all_bytes xs)
 
 -- where no body is in hand, all bytes are those of complete bodies
-pub complete_bytes : (b : Block) → b.rest ≡ [] → length (bytes_in b) ≡ bytes_of b.bodies
+pub complete_bytes : (b : Block) → b.rest ≡ [] → length (bytes_in b) ≡ byte_count b.bodies
 complete_bytes b e = omega (arith, length-append (all_bytes b.bodies) b.rest, ap length e, length_all_bytes b.bodies)
 
 -- the batch that is begun has enough bytes, or too few
-pub closes_full : (q : Queue) (bodies : List Body) → q.least ≤ bytes_of bodies → with_begun q bodies ≡ record { least = q.least; number = q.number; closed = q.closed ++ bodies; begun = [] }
-closes_full q bodies le = let e : leb q.least (bytes_of bodies) ≡ true = le-leb q.least (bytes_of bodies) le in rw e refl
+pub closes_full : (q : Queue) (bodies : List Body) → q.least ≤ byte_count bodies → with_begun q bodies ≡ record { least = q.least; number = q.number; closed = q.closed ++ bodies; begun = [] }
+closes_full q bodies le = let e : leb q.least (byte_count bodies) ≡ true = le-leb q.least (byte_count bodies) le in rw e refl
 
-pub stays_begun : (q : Queue) (bodies : List Body) → bytes_of bodies < q.least → with_begun q bodies ≡ record { least = q.least; number = q.number; closed = q.closed; begun = bodies }
-stays_begun q bodies lt = let e : leb q.least (bytes_of bodies) ≡ false = lt-leb q.least (bytes_of bodies) lt in rw e refl
+pub stays_begun : (q : Queue) (bodies : List Body) → byte_count bodies < q.least → with_begun q bodies ≡ record { least = q.least; number = q.number; closed = q.closed; begun = bodies }
+stays_begun q bodies lt = let e : leb q.least (byte_count bodies) ≡ false = lt-leb q.least (byte_count bodies) lt in rw e refl
 
 -- ---- the first batch
 

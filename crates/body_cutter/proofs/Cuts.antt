@@ -5,7 +5,7 @@ use Rattle.std.proofs.lemmas.Bool.{cases_Bool, cases_lt, ne_eqb, eqb-true, and_p
 use Rattle.std.proofs.lemmas.List.{append-nil}
 use Rattle.wasm_defs.specs.declared.fault.Refusal.{Refusal}
 use Rattle.wasm_defs.specs.Numbers.{IsCutOff}
-use Rattle.body_cutter.specs.Bodies.{Body, Block, bytes_of, no_bodies}
+use Rattle.body_cutter.specs.Bodies.{Body, Block, byte_count, no_bodies}
 use Rattle.body_cutter.specs.declared.walk.Walk.{Walk}
 use Rattle.body_cutter.specs.declared.queue.Waiting.{Waiting}
 use Rattle.body_cutter.specs.Sections.{Given, End, Whole, Faulty, Owed, ends, bodies_from}
@@ -150,7 +150,7 @@ abbrev pub behind : ℕ → List Body → Queue → Queue
 behind number front q = record { least = q.least; number = number; closed = front ++ q.closed; begun = q.begun }
 
 begun_behind : (number : ℕ) (front : List Body) (q : Queue) (bodies : List Body) → with_begun (behind number front q) bodies ≡ behind number front (with_begun q bodies)
-begun_behind number front q bodies = elim (cases_Bool (leb q.least (bytes_of bodies))) [
+begun_behind number front q bodies = elim (cases_Bool (leb q.least (byte_count bodies))) [
   | inl e ↦ rw e (ap (λ (l : List Body). record { least = q.least; number = number; closed = l; begun = [] }) (append_assoc front q.closed bodies))
   | inr e ↦ rw e refl
 ]

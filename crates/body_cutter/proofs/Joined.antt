@@ -3,13 +3,13 @@ use Rattle.std.proofs.Common.{◌≡◌, inl, inr, leb, List, [], ◌∷◌, ◌
 use Rattle.std.proofs.lemmas.Bool.{cases_Bool}
 use Rattle.std.proofs.lemmas.List.{append-nil, take-append-drop}
 use Rattle.body_cutter.specs.declared.batch.Batch.{Batch}
-use Rattle.body_cutter.specs.Bodies.{Body, bytes_of}
+use Rattle.body_cutter.specs.Bodies.{Body, byte_count}
 use Rattle.body_cutter.specs.Sections.{Given, End, Whole, Faulty, Owed}
 use Rattle.body_cutter.specs.Queues.{Queue, bodies_in, with_begun, with_body, with_bodies, all_closed, batch_length}
 use Rattle.body_cutter.specs.Cuttings.{Cutting, handed, finished, Takes}
 
 pub begun_in : (q : Queue) (bodies : List Body) → bodies_in (with_begun q bodies) ≡ q.closed ++ bodies
-begun_in q bodies = elim (cases_Bool (leb q.least (bytes_of bodies))) [
+begun_in q bodies = elim (cases_Bool (leb q.least (byte_count bodies))) [
   | inl e ↦ rw e (append-nil (q.closed ++ bodies))
   | inr e ↦ rw e refl
 ]

@@ -14,9 +14,11 @@ pub record Body : Type 0 where
   pub first : ℕ
   pub bytes : List ℕ
 
+-- the body that a view shows
 abbrev pub body_of : BodyView → Body
 body_of v = record { index = v.index; size = v.size; first = v.first; bytes = v.bytes.now }
 
+-- what an index behind the last body gives: a body of no bytes
 abbrev pub no_body : Body
 no_body = record { index = 0; size = 0; first = 0; bytes = [] }
 
@@ -24,9 +26,10 @@ no_body = record { index = 0; size = 0; first = 0; bytes = [] }
 abbrev pub body_at : List Body → ℕ → Body
 body_at bodies k = slice_index_or bodies k no_body
 
-abbrev pub bytes_of : List Body → ℕ
-bytes_of [] = 0
-bytes_of (b ∷ bodies) = length b.bytes + bytes_of bodies
+-- how many bytes they have in all
+abbrev pub byte_count : List Body → ℕ
+byte_count [] = 0
+byte_count (b ∷ bodies) = length b.bytes + byte_count bodies
 
 -- ---- bodies in one list of bytes
 
@@ -55,16 +58,20 @@ AreCuts bytes begin (cut ∷ cuts) = (begin ≤ cut.end) × (cut.end ≤ begin +
 
 -- ---- bodies, and the bytes that came of one more
 
+-- complete bodies, and what came of the next one
 pub record Block : Type 0 where
   pub bodies : List Body
   pub rest : List ℕ
 
+-- the block of a list of bytes: the bodies of its cuts, and the bytes behind the last of them, which are those of the body in hand
 abbrev pub block_of : List ℕ → List Cut → Block
 block_of bytes cuts = record { bodies = cut_bodies bytes 0 cuts; rest = drop (last_end 0 cuts) bytes }
 
+-- the block of no bytes
 abbrev pub no_bodies : Block
 no_bodies = record { bodies = []; rest = [] }
 
+-- the bytes of all bodies, in order
 abbrev pub all_bytes : List Body → List ℕ
 all_bytes [] = []
 all_bytes (b ∷ bodies) = b.bytes ++ all_bytes bodies

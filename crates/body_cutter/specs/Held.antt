@@ -15,14 +15,16 @@ end_of (Some r) whole = Faulty r
 end_of None true = Whole
 end_of None false = Owed
 
+-- how it ends by a walk: it is whole where all bodies came, and the last of them ends where the section does
 abbrev pub end_by : Walk → End
 end_by w = end_of w.stop (w.count == 0 && w.at == w.end)
 
--- the last batch, if it waits
+-- the bodies of the last batch, none where it doesn't wait
 abbrev pub last_of : Option (List Body) → List Body
 last_of None = []
 last_of (Some bodies) = bodies
 
+-- where a last batch waits, its bodies are one batch if none follows
 abbrev pub IsLastIf : ℕ → Option (List Body) → Type 0
 IsLastIf least None = Unit {0}
 IsLastIf least (Some bodies) = IsLast least bodies
@@ -35,6 +37,7 @@ waiting q = joined q.closed ++ last_of q.last
 abbrev pub queue_of : Walk → Waiting → Queue
 queue_of w q = record { least = w.least; number = q.number; closed = waiting q; begun = w.block.bodies }
 
+-- what holds of a walk and of the batches that wait, between two calls
 pub record IsHeld (w : Walk) (q : Waiting) : Type 0 where
   pub sound : IsSound w
   pub batches : AreBatches w

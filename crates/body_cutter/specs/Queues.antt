@@ -1,6 +1,6 @@
 -- Bodies in batches.
 use Rattle.std.specs.Prelude.{◌≡◌, ℕ, suc, ◌-◌, ◌<◌, ◌⊎◌, List, [], ◌∷◌, ◌++◌, length, drop, nat_le, if◌then◌else◌}
-use Rattle.body_cutter.specs.Bodies.{Body, bytes_of}
+use Rattle.body_cutter.specs.Bodies.{Body, byte_count}
 
 -- batches from a number on: the bodies of those that are closed, one after another, and of the one that is begun; a batch
 -- closes where its bodies have so many bytes
@@ -17,7 +17,7 @@ bodies_in q = q.closed ++ q.begun
 -- the batch that is begun gains a body
 abbrev pub with_begun : Queue → List Body → Queue
 with_begun q bodies =
-    if nat_le q.least (bytes_of bodies)
+    if nat_le q.least (byte_count bodies)
     then record { least = q.least; number = q.number; closed = q.closed ++ bodies; begun = [] }
     else record { least = q.least; number = q.number; closed = q.closed; begun = bodies }
 
@@ -64,4 +64,4 @@ pub record IsLast (least : ℕ) (batch : List Body) : Type 0 where
 
 -- they have too few bytes for a batch
 abbrev pub AreFew : ℕ → List Body → Type 0
-AreFew least bodies = (bodies ≡ []) ⊎ (bytes_of bodies < least)
+AreFew least bodies = (bodies ≡ []) ⊎ (byte_count bodies < least)

@@ -2,7 +2,7 @@
 
 ghost use Rattle.std.specs.Prelude.{◌≡◌, ◌<◌, ◌≤◌, [], length, IsTrue};
 ghost use Rattle.wasm_defs.specs.Limits.{max_body};
-ghost use Rattle.body_cutter.specs.Bodies.{body_of, body_at};
+ghost use Rattle.body_cutter.specs.Bodies.{body_of, body_at, byte_count};
 
 use crate::block::BodyBlock;
 use crate::body::BodyView;
@@ -40,6 +40,14 @@ impl Bodies {
         ensures { result ≡ length self.now }
     {
         self.block.count()
+    }
+
+    /// How many bytes they have in all.
+    #[tactic(auto, using(crate::proofs::Batches::complete_bytes))]
+    pub fn byte_count(&self) -> usize
+        ensures { result ≡ byte_count self.now }
+    {
+        self.block.len()
     }
 
     /// The body of an index.

@@ -166,6 +166,7 @@ pub fn read_rest<S: Source>(
         return Err(ManyStop::NoMemory);
     };
     loop {
+        feeder.flush();
         match source.read(buf) {
             Got::Bytes(count) => match rest.feed(&buf[..count], lanes, desks, feeder) {
                 Ok(()) => {}

@@ -1,7 +1,7 @@
 -- The batch that is begun: its bodies close no batch.
 use Rattle.std.proofs.Common.{◌≡◌, ℕ, inl, inr, leb, List, [], ◌∷◌, ◌++◌, refl, sym, ap, subst, ◌∙◌, arith}
 use Rattle.std.proofs.lemmas.Bool.{cases_Bool, leb-false}
-use Rattle.body_cutter.specs.Bodies.{Body, bytes_of}
+use Rattle.body_cutter.specs.Bodies.{Body, byte_count}
 use Rattle.body_cutter.specs.Sections.{End, Whole, Faulty, Owed, Given, bodies_from}
 use Rattle.body_cutter.specs.Places.{Place, still}
 use Rattle.body_cutter.specs.Queues.{Queue, with_begun, with_body, with_bodies}
@@ -11,12 +11,12 @@ use Rattle.module_stream.specs.Streaming.{AreOpen}
 -- ---- more bodies leave it open, or close it
 
 least_kept : (q : Queue) (bodies : List Body) → (with_begun q bodies).least ≡ q.least
-least_kept q bodies = elim (cases_Bool (leb q.least (bytes_of bodies))) [ inl e ↦ rw e refl | inr e ↦ rw e refl ]
+least_kept q bodies = elim (cases_Bool (leb q.least (byte_count bodies))) [ inl e ↦ rw e refl | inr e ↦ rw e refl ]
 
 begun_open : (least : ℕ) (q : Queue) (bodies : List Body) → q.least ≡ least → AreOpen least (with_begun q bodies).begun
-begun_open least q bodies is = elim (cases_Bool (leb q.least (bytes_of bodies))) [
+begun_open least q bodies is = elim (cases_Bool (leb q.least (byte_count bodies))) [
   | inl e ↦ rw e (inl refl)
-  | inr e ↦ let short = leb-false q.least (bytes_of bodies) e in rw e (inr (omega (arith, short)))
+  | inr e ↦ let short = leb-false q.least (byte_count bodies) e in rw e (inr (omega (arith, short)))
 ]
 
 with_open : (least : ℕ) (bodies : List Body) (q : Queue) → q.least ≡ least → AreOpen least q.begun → AreOpen least (with_bodies q bodies).begun
@@ -40,7 +40,7 @@ fresh_open c index count at end least is more = handed_open least c (bodies_from
 -- ---- the closed batches have no part in it
 
 begun_same : (p q : Queue) (bodies : List Body) → p.least ≡ q.least → (with_begun p bodies).begun ≡ (with_begun q bodies).begun
-begun_same p q bodies least = elim (cases_Bool (leb q.least (bytes_of bodies))) [
+begun_same p q bodies least = elim (cases_Bool (leb q.least (byte_count bodies))) [
   | inl e ↦ rw (least, e) refl
   | inr e ↦ rw (least, e) refl
 ]

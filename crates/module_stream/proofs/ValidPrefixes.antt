@@ -22,7 +22,7 @@ use Rattle.section_reader.specs.FrontOnward.{EndsOnward}
 use Rattle.section_reader.specs.Onward.{after_parts, AreSections}
 use Rattle.section_reader.proofs.OnwardSilence.{refused_ends, kept_ends, silent_ends}
 use Rattle.body_cutter.specs.Sections.{End, Whole as AllCut, Faulty, Owed as BytesOwed}
-use Rattle.body_cutter.specs.Bodies.{Body, bytes_of}
+use Rattle.body_cutter.specs.Bodies.{Body, byte_count}
 use Rattle.body_cutter.specs.Queues.{Queue, bodies_in}
 use Rattle.body_cutter.specs.Cuttings.{Cutting, left}
 use Rattle.module_stream.specs.declared.compilation.Compilation.{Compilation}
@@ -135,7 +135,7 @@ no_error_read came run j free r e = free r (refused_lasts came r e) (sym j.endin
 
 -- ---- bodies that may wait
 
-waits_open : (least : ℕ) (e : Ending) (bodies : List Body) → (bodies ≡ []) ⊎ ((e ≡ Owed) × (bytes_of bodies < least)) → MayWait (Some least) e bodies
+waits_open : (least : ℕ) (e : Ending) (bodies : List Body) → (bodies ≡ []) ⊎ ((e ≡ Owed) × (byte_count bodies < least)) → MayWait (Some least) e bodies
 waits_open least e [] h = tt
 waits_open least e (b ∷ bodies) (inl none) = absurd cc
 waits_open least e (b ∷ bodies) (inr h) = h
@@ -165,11 +165,11 @@ module _ (f : Front) (c : Cutting) (w : IsWaiting c) where
       owed : (left c []).ending ≡ BytesOwed → e ≡ Owed
       owed k = sym is ∙ ending_after (coded_all (counts_data f.steps.seen) (bodies_in (left c []).queue)) (behind (left c []).ending next) ∙ ap (λ (x : End). (behind x next).ending) k
 
-      of : (k : End) → (left c []).ending ≡ k → AreOpen least (left c []).queue.begun → (bodies_in (left c []).queue ≡ []) ⊎ ((e ≡ Owed) × (bytes_of (bodies_in (left c []).queue) < least))
+      of : (k : End) → (left c []).ending ≡ k → AreOpen least (left c []).queue.begun → (bodies_in (left c []).queue ≡ []) ⊎ ((e ≡ Owed) × (byte_count (bodies_in (left c []).queue) < least))
       of AllCut k o = inl (none_begun (λ t. let u : AllCut ≡ BytesOwed = sym k ∙ t in absurd cc))
       of (Faulty r) k o = inl (none_begun (λ t. let u : Faulty r ≡ BytesOwed = sym k ∙ t in absurd cc))
       of BytesOwed k (inl none) = inl (sym same ∙ none)
-      of BytesOwed k (inr few) = inr (owed k, subst (λ (l : List Body). bytes_of l < least) same few)
+      of BytesOwed k (inr few) = inr (owed k, subst (λ (l : List Body). byte_count l < least) same few)
 
 -- closed batches wait at most where none is to be validated before more bytes are read
 abbrev Waits : (closing : Option ℕ) → (batch : ℕ) → Option Cutting → Type 0

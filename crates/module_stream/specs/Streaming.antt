@@ -12,7 +12,7 @@ use Rattle.section_reader.specs.declared.front.Front.{Front}
 use Rattle.section_reader.specs.Stages.{is_at_bodies}
 use Rattle.section_reader.specs.FrontLeft.{total, can_skip}
 use Rattle.section_reader.specs.FrontOnward.{remaining_parts, Follows}
-use Rattle.body_cutter.specs.Bodies.{Body, bytes_of}
+use Rattle.body_cutter.specs.Bodies.{Body, byte_count}
 use Rattle.body_cutter.specs.Cuttings.{Cutting, left, is_whole}
 use Rattle.image_linker.specs.Judging.{IsVerdictOf}
 use Rattle.module_stream.specs.Limits.{max_read}
@@ -35,7 +35,7 @@ pub record IsOutside (f : Front) (len : ℕ) (more : List ℕ) : Type 0 where
 
 -- the bodies of a batch that hasn't closed: none, or they have fewer bytes than close one
 abbrev pub AreOpen : (least : ℕ) → List Body → Type 0
-AreOpen least bodies = (bodies ≡ []) ⊎ (bytes_of bodies < least)
+AreOpen least bodies = (bodies ≡ []) ⊎ (byte_count bodies < least)
 
 -- among the bodies, of which so many bytes close a batch
 pub record IsInside (least : ℕ) (f : Front) (c : Cutting) (len : ℕ) (more : List ℕ) : Type 0 where

@@ -6,7 +6,7 @@ use Rattle.wasm_defs.specs.Outside.{Part, Ending, Refused, Owed, module_read}
 use Rattle.wasm_defs.specs.Context.{data_count_of}
 use Rattle.wasm_defs.specs.Faults.{items_of, AreValid}
 use Rattle.image_linker.specs.Judging.{IsTextFault}
-use Rattle.body_cutter.specs.Bodies.{Body, bytes_of}
+use Rattle.body_cutter.specs.Bodies.{Body, byte_count}
 use Rattle.module_stream.specs.CutBodies.{coded_all}
 
 -- How many bytes of bodies close a batch, where each batch is validated before more bytes are read; or, with workers, none is given.
@@ -19,7 +19,7 @@ closing_bytes (suc workers) batch = None
 abbrev pub MayWait : (closing : Option ℕ) → Ending → List Body → Type 0
 MayWait None ending bodies = Unit {0}
 MayWait (Some least) ending [] = Unit {0}
-MayWait (Some least) ending (b ∷ bodies) = (ending ≡ Owed) × (bytes_of (b ∷ bodies) < least)
+MayWait (Some least) ending (b ∷ bodies) = (ending ≡ Owed) × (byte_count (b ∷ bodies) < least)
 
 -- their parts are such that are right, all bodies valid; after these are at most bodies that aren't validated so
 -- far: those whose batches haven't closed, and those that are read in parallel with workers

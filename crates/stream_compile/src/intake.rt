@@ -93,6 +93,7 @@ fn hand_over(
         desk.hand_over(board, context, feeder, &batch)?;
         intake.kept.push(batch)?;
     }
+    feeder.flush();
     Ok(())
 }
 

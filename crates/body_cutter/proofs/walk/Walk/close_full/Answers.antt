@@ -1,6 +1,6 @@
 use Rattle.std.proofs.Common.{◌≡◌, ◌<◌, ◌≤◌, inl, inr, List, [], ◌∷◌, ◌++◌, All, sym, ap, subst, ◌∙◌, arith}
 use Rattle.std.proofs.lemmas.List.Elements.{All-push}
-use Rattle.body_cutter.specs.Bodies.{Body, Block, bytes_of, no_bodies}
+use Rattle.body_cutter.specs.Bodies.{Body, Block, byte_count, no_bodies}
 use Rattle.body_cutter.specs.Queues.{Queue, joined, IsFull}
 use Rattle.body_cutter.specs.Walks.{batches_of}
 use Rattle.body_cutter.proofs.Batches.{is_full, complete_bytes, joined_push, closes_full, stays_begun}
@@ -9,7 +9,7 @@ use Rattle.body_cutter.proofs.walk.Walk.close_full.Goals.{Then-len-self, In-Ok}
 
 -- ---- too few bytes
 
-few_bytes : (c : Then-len-self) → bytes_of c.args.self.now.block.bodies < c.args.self.now.least
+few_bytes : (c : Then-len-self) → byte_count c.args.self.now.block.bodies < c.args.self.now.least
 few_bytes c = omega (arith, c.if-len-self.true, c.len.ensures, complete_bytes c.args.self.now.block c.requires)
 
 pub returns-then-len-self-clause-batches : goal.returns-then-len-self-clause-batches
@@ -20,7 +20,7 @@ returns-then-len-self-clause-full c = λ before body is few full. record { full 
 
 -- ---- enough bytes
 
-enough : (c : In-Ok) → c.args.self.now.least ≤ bytes_of c.args.self.now.block.bodies
+enough : (c : In-Ok) → c.args.self.now.least ≤ byte_count c.args.self.now.block.bodies
 enough c = omega (arith, c.if-len-self.false, c.len.ensures, complete_bytes c.args.self.now.block c.requires)
 
 closed : (c : In-Ok) → c.push_back.new.self ≡ c.args.self.now.closed ++ c.args.self.now.block.bodies ∷ []
@@ -41,7 +41,7 @@ returns-in-Ok-clause-batches c =
 pub returns-in-Ok-clause-full : goal.returns-in-Ok-clause-full
 returns-in-Ok-clause-full c = λ before body is few full.
     let w = c.args.self.now in
-    let batch : IsFull w.least w.block.bodies = subst (IsFull w.least) (sym is) (is_full w.least before body few (omega (arith, enough c, ap bytes_of is))) in
+    let batch : IsFull w.least w.block.bodies = subst (IsFull w.least) (sym is) (is_full w.least before body few (omega (arith, enough c, ap byte_count is))) in
     record {
       full = subst (All (IsFull w.least)) (sym (closed c)) (All-push (IsFull w.least) w.closed w.block.bodies full batch);
       few = inl (ap (λ (b : Block). b.bodies) (anew c));
