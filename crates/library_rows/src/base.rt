@@ -2,9 +2,15 @@
 
 use std::alloc::{AllocError, Global};
 
+/// The number that is written there, if one is. It is parsed as one type alone, whatever it is for: each type's parser is proved again
+/// where it is called.
+pub fn number_in(text: &str) -> Option<i64> {
+    text.parse::<i64>().ok()
+}
+
 /// The byte of two hexadecimal digits; 0 for another text.
 fn byte_of(digits: &str) -> u8 {
-    u8::from_str_radix(digits, 16).unwrap_or(0)
+    u8::try_from(i64::from_str_radix(digits, 16).unwrap_or(0)).unwrap_or(0)
 }
 
 /// Appends the bytes that the text has in hexadecimal digits.
@@ -32,7 +38,7 @@ pub fn is_read(bytes: &mut Vec<u8>, line: &str) -> Result<bool, AllocError> {
 
 /// Puts the byte there, where the offset is among the bytes.
 fn put(bytes: &mut Vec<u8>, place: &str, byte: u8) {
-    let place = place.parse::<usize>().unwrap_or(usize::MAX);
+    let place = usize::try_from(number_in(place).unwrap_or(-1)).unwrap_or(usize::MAX);
     if let Some(there) = bytes.get_mut(place) {
         *there = byte;
     }

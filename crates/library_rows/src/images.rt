@@ -1,6 +1,6 @@
 //! Images from bytes.
 
-use crate::base::changed;
+use crate::base::{changed, number_in};
 use image_format::{Export, Image, ImageStop, read_image, write_image};
 use std::alloc::{AllocError, Global};
 use std::test::Fail;
@@ -73,7 +73,7 @@ pub fn image_answer(alloc: Global, bytes: &[u8], changes: &str) -> Result<String
 
 /// A number that is written there; 0 for another text.
 fn offset_of(text: &str) -> u64 {
-    text.parse::<u64>().unwrap_or(0)
+    u64::try_from(number_in(text).unwrap_or(0)).unwrap_or(0)
 }
 
 /// Where the image of the bytes says that the trap at an offset of its text comes from.

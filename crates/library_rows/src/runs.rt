@@ -1,7 +1,7 @@
 //! Runs of images, with a host that answers from the row.
 ghost use Rattle.std.specs.Prelude.{true};
 
-use crate::base::changed;
+use crate::base::{changed, number_in};
 use image_format::{Image, read_image};
 use image_run::{Host, Instance, Outcome, Patch, Reply, call_checks, find_export, run_checks};
 use std::alloc::{AllocError, Global};
@@ -32,10 +32,9 @@ impl Host for Listed {
     }
 }
 
-/// The number that is written there; 0 for another text. It is parsed as one type alone, whatever it is for: each type's parser is
-/// proved again where it is called.
+/// The number that is written there; 0 for another text.
 fn i64_of(text: &str) -> i64 {
-    text.parse::<i64>().unwrap_or(0)
+    number_in(text).unwrap_or(0)
 }
 
 fn i32_of(text: &str) -> i32 {
