@@ -94,6 +94,7 @@ fn feed_slowly<R: Wait>(
 ) -> Result<(), AllocError> {
     for number in 0..count {
         if put(alloc, &mut feeder, number)? {
+            feeder.flush();
             wait_until(rt, taken, u64::from(number) + 1);
         }
     }
