@@ -90,6 +90,10 @@ take_back n m l s t u h g =
       gathers = gathers_trans l.context.now l.cells s.desk.seat.view t.desk.seat.view u.desk.seat.view s.rows.items t.rows.items u.rows.items h.gathers g.gathers;
     }
 
+-- as many parts as before: what one worker gave back was taken in
+none_out : (rest : ℕ) (l : Lane) (s t : LaneDesk) → HasStarted 0 rest l s t → GathersIn 0 l s t
+none_out rest l s t h = let p = h.parts in record { at = h.at; table = h.table; parts = omega arith; gathers = h.gathers }
+
 -- ---- one lane's desk
 
 desk_split : (l : Lane) (d e : LaneDesk) → IsDeskOf l d → Splits l d e → IsDeskOf l e
@@ -342,6 +346,34 @@ module _ (lanes : List Lane) where
       let p = h.parts in
       let r = h.small in omega arith
 
+  -- ---- the thread that reads is a worker, too
+
+  -- parts were split off, and what one worker gave back was taken in
+  pub helped : (old mid next : List LaneDesk) → AreDesks lanes old → AreDesks lanes mid → HaveParts 1 old → Each Splits lanes old mid → Each (GathersIn 1) lanes mid next → Each (GathersIn 0) lanes old next
+  helped old mid next are are' parts a b k l s u lane before after =
+      none_out 0 l s u (taken_back 0 0 old mid next are' (started_one 0 1 0 old old mid refl are (started_begins 1 old parts) a) b k l s u lane before after)
+
+  -- and there was room for that part
+  pub room_split : (old mid : List LaneDesk) → AreDesks lanes old → AreDesks lanes mid → HaveParts 1 old → Each Splits lanes old mid → HaveRoom 1 mid
+  room_split old mid are are' parts a = room_mid 0 0 old mid are are' (started_one 0 1 0 old old mid refl are (started_begins 1 old parts) a)
+
+  -- room is as before
+  pub room_kept : (n : ℕ) (old now : List LaneDesk) → AreDesks lanes old → AreDesks lanes now → Each (GathersIn 0) lanes old now → HaveRoom n old → HaveRoom n now
+  room_kept n old now are are' each room k t at =
+      let c = are.count in
+      let c' = are'.count in
+      let w = slice_get_within now k t at in
+      let o = element_at old k (omega arith) in
+      let l = element_at lanes k (omega arith) in
+      let p = (each k l.0 o.0 t l.1 o.1 at).parts in
+      let q = room k o.0 o.1 in omega arith
+
+  -- what others gave back came after that
+  pub then_joined : (n : ℕ) (old mid next : List LaneDesk) → AreDesks lanes mid → Each (GathersIn 0) lanes old mid → Each (GathersIn n) lanes mid next → Each (GathersIn n) lanes old next
+  then_joined n old mid next are a b =
+      let same : 0 + n ≡ n = omega arith in
+      subst (λ (k : ℕ). Each (GathersIn k) lanes old next) same (each_trans lanes (GathersIn 0) (GathersIn n) (GathersIn (0 + n)) old mid next are.count (gathers_in_trans 0 n) a b)
+
   -- ---- the workers are joined after the reading
 
   -- the desk of a lane when workers had been started, and after the reading
@@ -376,6 +408,23 @@ module _ (lanes : List Lane) where
       let r = h.small in
       let q = m.2.reads.parts in
       let e = ap (λ (d : LaneDesk). d.desk.seat.view.parts) same in omega arith
+
+  -- after the reading there are parts for those that may still be split off
+  pub parts_read : (n rest own : ℕ) (old now read : List LaneDesk) → own ≤ rest → AreDesks lanes old → AreDesks lanes now → AreDesks lanes read → Each (HasStarted n rest) lanes old now → Each Reads lanes now read → HaveParts own read
+  parts_read n rest own old now read few are are' are'' a b k u at =
+      let c = are.count in
+      let c'' = are''.count in
+      let w = slice_get_within read k u at in
+      let o = element_at old k (omega arith) in
+      let l = element_at lanes k (omega arith) in
+      let m = between k n rest l.0 old now read o.0 l.1 o.1 are' are'' a b in
+      let same : m.1 ≡ u = some_one read k m.1 u m.2.after at in
+      let h = m.2.started in
+      let p = h.parts in
+      let f = h.few in
+      let r = h.small in
+      let q = m.2.reads.parts in
+      let e = ap (λ (d : LaneDesk). d.desk.seat.view.parts) same in (omega arith, omega arith)
 
   pub all_joined : (n rest : ℕ) (old now read last : List LaneDesk) → HaveNoRows old → AreDesks lanes now → AreDesks lanes read → Each (HasStarted n rest) lanes old now → Each Reads lanes now read → Each (GathersIn n) lanes read last → Each HasReadIn lanes old last
   all_joined n rest old now read last none are are' a b c k l s v lane before after =

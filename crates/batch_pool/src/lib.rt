@@ -29,7 +29,7 @@ pub use lanes::{
     hand_over_at, run_many, work_many,
 };
 pub use laws::row_law;
-pub use pool::Pool;
+pub use pool::{Pool, keep_freed, workers_for};
 pub use scope::{
     Desk, Joined, Labour, Reading, Settled, by_number, join_all, keep, labour_at, run_beside,
     settle, take_in,

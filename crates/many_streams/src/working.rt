@@ -12,7 +12,10 @@ use crate::flow::Flow;
 use crate::member::{Member, Part};
 use crate::rest::{Pause, Rest, RestReader};
 use crate::streams::ManyStop;
-use batch_pool::{BatchCompiler, Desk, Desks, Lane, LaneDesk, Pool, by_number, run_many, settle};
+use batch_pool::{
+    BatchCompiler, Desk, Desks, Lane, LaneDesk, Pool, by_number, keep_freed, run_many, settle,
+    workers_for,
+};
 use body_compiler::Row;
 use cancel_drain::Board;
 use io_edges::{Gate, Source};
@@ -308,6 +311,8 @@ pub fn work_beside<R: Threads + Wait + Sync, S: Source, G: Gate>(
         → ComesBeside first before (S.left source.new) (S.faults source.new) keeps members.now result }
     ensures front { TookFront (S.left source.old) (S.faults source.old) (S.left source.new) (S.faults source.new) }
 {
+    let workers = workers_for(rt, workers);
+    keep_freed(alloc);
     let Some(unsettled) = read_in_scope(rt, alloc, source, gate, workers, members, pause) else {
         return Err(ManyStop::NoMemory);
     };

@@ -12,7 +12,8 @@ use crate::chunk::Chunk;
 use crate::intake::{Intake, Round, read_bodies};
 use crate::reading::Ending;
 use batch_pool::{
-    BatchCompiler, Desk, Feeder, Pool, Reading, Ticket, by_number, run_beside, settle,
+    BatchCompiler, Desk, Feeder, Pool, Reading, Ticket, by_number, keep_freed, run_beside, settle,
+    workers_for,
 };
 use body_compiler::Row;
 use cancel_drain::{Board, BoardSeat};
@@ -292,6 +293,8 @@ pub fn read_beside<R: Threads + Wait + Sync, S: Source, G: Gate>(
     ensures kept { KeepsAlike compilation.old.codes compilation.new.codes }
     ensures front { TookFront (S.left source.old) (S.faults source.old) (S.left source.new) (S.faults source.new) }
 {
+    let workers = workers_for(rt, workers);
+    keep_freed(alloc);
     // Why: docs/DECISIONS.md, "Bodies are read in rounds"
     let mut chunk = chunk;
     loop {

@@ -43,6 +43,10 @@ pub struct Intake {
     pub batches: usize,
 }
 
+/// A round is over with so many batches, however few bytes they have: what one thread does behind the joins takes longer where more of it
+/// is in no cache.
+const MOST_BATCHES: usize = 16_384;
+
 impl Intake {
     /// Before the first body of a round.
     pub fn new(alloc: Global, cutter: Cutter, chunk: Chunk, round: Round) -> Intake
@@ -62,7 +66,8 @@ impl Intake {
 
     /// Whether the round is over, however many bodies are to come.
     fn round_is_over(&self) -> bool {
-        self.limit <= self.chunk.count() && self.batches <= self.kept.len()
+        MOST_BATCHES <= self.kept.len()
+            || self.limit <= self.chunk.count() && self.batches <= self.kept.len()
     }
 }
 

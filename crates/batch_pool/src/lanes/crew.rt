@@ -4,9 +4,10 @@ ghost use Rattle.batch_pool.specs.declared.lanes.lane.Lane.{Lane as Way};
 ghost use Rattle.batch_pool.specs.declared.lanes.lane.LaneSeat.{LaneSeat as Seat};
 ghost use Rattle.batch_pool.specs.Lanes.{AreSeated, AreApart, AreFresh, AreDesks, Each, IsWorkedMany, GathersIn, HasReadIn, HaveNoRows, HaveParts, HaveRoom};
 ghost use Rattle.batch_pool.specs.Crews.{Splits, IsOfCrew};
+ghost use Rattle.batch_pool.specs.Hands.{count_in};
 
 use crate::feeder::Feeder;
-use crate::hand::Hand;
+use crate::hand::{Hand, last_hand};
 use crate::lanes::lane::{Desks, Lane, LaneDesk, LaneSeat, Seats, WorkedMany};
 use crate::lanes::many::work_many;
 use crate::lanes::reading::ReadingMany;
@@ -161,6 +162,32 @@ fn crew_at<R: Threads + Wait + Sync, G: Gate>(
     work_many(rt, alloc, &mut hand, lanes, seats, gate)
 }
 
+/// Works with a hand, if there is one, until no more tickets come, and takes in what that made. None where memory ran out.
+fn help_many<R: Threads + Wait + Sync, G: Gate>(
+    rt: &R,
+    alloc: Global,
+    lanes: &[Lane<'_>],
+    desks: &mut Vec<LaneDesk>,
+    gate: &G,
+    own: Option<Hand>,
+) -> Option<()>
+    requires desks { AreDesks lanes.now desks.old.items }
+    requires apart { AreApart lanes.now }
+    requires parts { HaveParts (count_in own) desks.old.items }
+    ensures desks { IfSome result (λ _. AreDesks lanes.now desks.new.items) }
+    ensures gathers { IfSome result (λ _. Each (GathersIn 0) lanes.now desks.old.items desks.new.items) }
+{
+    let Some(hand) = own else {
+        return Some(());
+    };
+    let Ok(parts) = split_all(alloc, lanes, desks) else {
+        return None;
+    };
+    let worked = crew_at(rt, alloc, hand, lanes, parts, gate, false);
+    take_in_many(lanes, desks, worked)?;
+    Some(())
+}
+
 /// What the thread that reads several modules has once it joined the workers.
 #[derive(Drop)]
 pub struct JoinedMany<T> {
@@ -211,6 +238,8 @@ fn run_lent<R: Threads + Wait + Sync, G: Gate, L: Lending, T: ReadingMany + Drop
             let mut desks = desks;
             let mut handles: Vec<PromisedHandle<WorkedMany, Crew<'_, L>>> = Vec::new(alloc);
             let mut number = 0u64;
+            let mut hands = hands;
+            let own = last_hand(&mut hands);
             for hand in hands {
                 let Ok(parts) = split_all(alloc, list, &mut desks) else {
                     return Err(reading);
@@ -258,6 +287,9 @@ fn run_lent<R: Threads + Wait + Sync, G: Gate, L: Lending, T: ReadingMany + Drop
             let mut reader = reading;
             reader.read(list, &mut desks, &mut feeder);
             feeder.close();
+            let Some(()) = help_many(rt, alloc, list, &mut desks, gate, own) else {
+                return Err(reader);
+            };
             let Some(()) = join_all_many(rt, list, &mut desks, handles) else {
                 return Err(reader);
             };
@@ -266,8 +298,9 @@ fn run_lent<R: Threads + Wait + Sync, G: Gate, L: Lending, T: ReadingMany + Drop
     )
 }
 
-/// Reads while a worker for each hand, as far as threads can be started, works off what was handed over and what is handed over
-/// meanwhile, of whichever of the lanes' modules it is. Err where memory ran out, with the reader as it is after its reading, or as it was.
+/// Reads while workers work off what was handed over and what is handed over meanwhile, of whichever of the lanes' modules it is: a
+/// thread for each hand but the last, as far as threads can be started, and this thread, with the last hand, once it has read. Err where
+/// memory ran out, with the reader as it is after its reading, or as it was.
 pub fn run_many<R: Threads + Wait + Sync, G: Gate, T: ReadingMany + Drop>(
     rt: &R,
     lanes: &[Lane<'_>],

@@ -1,16 +1,19 @@
 //! Workers in threads of their own, in parallel with a caller that reads.
-ghost use Rattle.std.specs.Prelude.{◌≡◌, ◌<◌, ◌^◌, ◌⊎◌, true, [], length, IfOk, IfErr};
+ghost use Rattle.std.specs.Prelude.{◌≡◌, ◌<◌, ◌^◌, ◌⊎◌, true, [], length, IfOk, IfErr, IfSome};
 ghost use Rattle.batch_pool.specs.Desks.{IsDesk, IsIdle, HasRead};
+ghost use Rattle.batch_pool.specs.Gathering.{Gathers};
+ghost use Rattle.batch_pool.specs.Hands.{count_in};
 ghost use Rattle.batch_pool.specs.Working.{IsWorked};
 
 use crate::batch_compiler::BatchCompiler;
 use crate::feeder::Feeder;
-use crate::hand::Hand;
+use crate::hand::{Hand, last_hand};
 use crate::scope::desk::Desk;
 use crate::scope::gathering::{join_all, take_in};
 use crate::scope::labour::{Labour, labour_at};
 use crate::ticket::Ticket;
 use crate::worked::Worked;
+use crate::worker::work;
 use body_compiler::Row;
 use cancel_drain::{Board, BoardSeat};
 use index_spaces::Context;
@@ -53,8 +56,33 @@ pub struct Joined<T> {
     pub rows: Vec<Row>,
 }
 
-/// Reads while a worker for each hand, as far as threads can be started, works off what is handed over. Err where memory ran out,
-/// with the reader as it is after its reading, or as it was.
+/// Works with a hand, if there is one, until no more tickets come, and takes in what that made. None where memory ran out.
+fn help<R: Threads + Wait + Sync, G: Gate>(
+    rt: &R,
+    board: &Board,
+    compiler: &BatchCompiler<'_, G>,
+    own: Option<Hand>,
+    seat: &mut BoardSeat,
+    rows: &mut Vec<Row>,
+) -> Option<()>
+    requires table { seat.old.table ≡ board.now.table }
+    requires parts { count_in own < seat.old.view.parts }
+    requires room { seat.old.view.parts < 2 ^ 64 }
+    ensures table { seat.new.table ≡ seat.old.table }
+    ensures parts { seat.new.view.parts ≡ seat.old.view.parts }
+    ensures gathers { IfSome result (λ _. Gathers compiler.now.context.now compiler.now.cells.now seat.old.view seat.new.view rows.old.items rows.new.items) }
+{
+    let Some(hand) = own else {
+        return Some(());
+    };
+    let mut hand = hand;
+    let part = board.split(seat);
+    let worked = work(rt, &mut hand, board, part, compiler);
+    take_in(board, compiler.context, compiler.cells, seat, rows, worked)
+}
+
+/// Reads while workers work off what is handed over: a thread for each hand but the last, as far as threads can be started, and this
+/// thread, with the last hand, once it has read. Err where memory ran out, with the reader as it is after its reading, or as it was.
 pub fn run_beside<R: Threads + Wait + Sync, G: Gate, T: Reading + Drop>(
     rt: &R,
     board: &Board,
@@ -94,6 +122,8 @@ pub fn run_beside<R: Threads + Wait + Sync, G: Gate, T: Reading + Drop>(
             let mut rows: Vec<Row> = Vec::new(alloc);
             let mut handles: Vec<PromisedHandle<Worked, Labour<'_>>> = Vec::new(alloc);
             let mut number = 0u64;
+            let mut hands = hands;
+            let own = last_hand(&mut hands);
             for hand in hands {
                 let part = board.split(&mut seat);
                 let promise = Labour {
@@ -145,6 +175,9 @@ pub fn run_beside<R: Threads + Wait + Sync, G: Gate, T: Reading + Drop>(
                 last: _,
             } = desk;
             feeder.close();
+            let Some(()) = help(rt, board, compiler, own, &mut seat, &mut rows) else {
+                return Err(reader);
+            };
             let Some(()) = join_all(rt, board, context, cells, &mut seat, &mut rows, handles) else {
                 return Err(reader);
             };

@@ -22,7 +22,7 @@ fn places(
     // (the contract alone needs these two)
     let _ = context;
     let _ = cells;
-    let mut places = Vec::new(alloc);
+    let mut places = Vec::with_capacity(alloc, count)?;
     for _ in 0..count {
         places.push(None)?;
     }

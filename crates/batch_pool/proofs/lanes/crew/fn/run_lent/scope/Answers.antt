@@ -9,18 +9,24 @@ use Rattle.batch_pool.specs.declared.lanes.lane.LaneSeat.{LaneSeat}
 use Rattle.batch_pool.specs.declared.lanes.lane.LaneDesk.{LaneDesk}
 use Rattle.batch_pool.specs.Lanes.{AreSeated, AreApart, AreDesks, Each, IsWorkedMany, HasReadIn}
 use Rattle.batch_pool.specs.Crews.{IsOfCrew}
-use Rattle.batch_pool.proofs.Crews.{HasStarted, started_begins, have_one, started_one, taken_back, room_mid, room_read, all_joined, crew_of}
+use Rattle.batch_pool.specs.Hands.{count_in}
+use Rattle.batch_pool.proofs.Crews.{HasStarted, started_begins, have_one, started_one, taken_back, room_mid, room_read, room_kept, parts_read, then_joined, all_joined, crew_of}
 use Rattle.batch_pool.proofs.lanes.crew.fn.run_lent.scope.Goals.{in-Ok-spawn_with+in-Ok-push, in-Err+in-Some-take_in_many}
 use Rattle.batch_pool.proofs.lanes.crew.fn.run_lent.scope.Goals as goal
 
 first_desks : {lanes list : List Lane} {desks : List LaneDesk} → AreDesks lanes desks → list ≡ lanes → AreDesks list desks
 first_desks {lanes} {list} {desks} are same = subst (λ (ls : List Lane). AreDesks ls desks) (sym same) are
 
+one_less : (m rest own : ℕ) → m + 1 ≡ rest → m + own + 1 ≡ rest + own
+one_less m rest own e = omega (arith, e)
+
 pub loop-hand-init : goal.loop-hand-init
 loop-hand-init g c =
     let list = c.lanes-list.result.now in
     let none : vec_len c.new-handles.result ≡ 0 = search rules in
-    let rest : into_iter_len c.into_iter-hand-iterator.result ≡ length c.captures.hands.items = search rules in (
+    let own = count_in c.last_hand-own.result in
+    let left : into_iter_len c.into_iter-hand-iterator.result ≡ length c.last_hand-own.new.hands.items = search rules in
+    let rest : into_iter_len c.into_iter-hand-iterator.result + own ≡ length c.captures.hands.items = ap (λ n. n + own) left ∙ c.last_hand-own.ensures in (
       search rules,
       search rules,
       first_desks c.requires.desks c.lanes-list.ensures,
@@ -31,9 +37,10 @@ loop-hand-init g c =
 pub split_all-requires : goal.split_all-requires
 split_all-requires g c =
     let i = c.loop-hand.invariant in
+    let own = count_in c.loop-hand.own-1 in
     record {
       desks = i.2;
-      parts = have_one c.lanes-list.result.now (vec_len c.loop-hand.handles) (into_iter_len c.loop-hand.hand-iterator) (into_iter_len c.next.new.self) c.captures.desks.items c.loop-hand.desks.items (first_desks c.requires.desks c.lanes-list.ensures) i.2 i.3 c.in-Some.ensures.steps.1;
+      parts = have_one c.lanes-list.result.now (vec_len c.loop-hand.handles) (into_iter_len c.loop-hand.hand-iterator + own) (into_iter_len c.next.new.self + own) c.captures.desks.items c.loop-hand.desks.items (first_desks c.requires.desks c.lanes-list.ensures) i.2 i.3 (one_less _ _ own c.in-Some.ensures.steps.1);
     }
 
 pub spawn_with-worked-requires-clause-seats : goal.spawn_with-worked-requires-clause-seats
@@ -52,13 +59,15 @@ take_in_many-requires g c =
     let i = c.loop-hand.invariant in
     let list = c.lanes-list.result.now in
     let n = vec_len c.loop-hand.handles in
-    let m = into_iter_len c.next.new.self in
+    let own = count_in c.loop-hand.own-1 in
+    let rest = into_iter_len c.loop-hand.hand-iterator + own in
+    let m = into_iter_len c.next.new.self + own in
     let mid = c.split_all.new.desks.items in
     let first = first_desks c.requires.desks c.lanes-list.ensures in
     record {
       desks = c.in-Ok.ensures.desks;
       room = room_mid list n m c.captures.desks.items mid first c.in-Ok.ensures.desks
-          (started_one list n (into_iter_len c.loop-hand.hand-iterator) m c.captures.desks.items c.loop-hand.desks.items mid c.in-Some.ensures.steps.1 i.2 i.3 c.in-Ok.ensures.left);
+          (started_one list n rest m c.captures.desks.items c.loop-hand.desks.items mid (one_less _ _ own c.in-Some.ensures.steps.1) i.2 i.3 c.in-Ok.ensures.left);
       worked = (
         c.in-Ok.parts.items,
         c.in-Ok.ensures.fresh,
@@ -73,10 +82,12 @@ loop-hand-preserved g c =
     let i = c.loop-hand.invariant in
     let lanes = c.lanes-list.result.now in
     let n = vec_len c.loop-hand.handles in
-    let m = into_iter_len c.next.new.self in
+    let own = count_in c.loop-hand.own-1 in
+    let rest = into_iter_len c.loop-hand.hand-iterator + own in
+    let m = into_iter_len c.next.new.self + own in
     let first = c.captures.desks.items in
     let mid = c.split_all.new.desks.items in
-    let started = started_one lanes n (into_iter_len c.loop-hand.hand-iterator) m first c.loop-hand.desks.items mid c.in-Some.ensures.steps.1 i.2 i.3 c.in-Ok.ensures.left in
+    let started = started_one lanes n rest m first c.loop-hand.desks.items mid (one_less _ _ own c.in-Some.ensures.steps.1) i.2 i.3 c.in-Ok.ensures.left in
     elim c.match-spawn_with.branch [
       | in-Ok-spawn_with+in-Ok-push w ↦
           let desks : c.match-spawn_with.desks.items ≡ mid = ap (λ (v : Vec LaneDesk Global). v.items) w.desks-is in
@@ -101,19 +112,35 @@ loop-hand-preserved g c =
           )
     ]
 
+pub help_many-requires-clause-parts : goal.help_many-requires-clause-parts
+help_many-requires-clause-parts g c = λ κs lives.
+    let i = c.loop-hand.invariant in
+    let own = count_in c.loop-hand.own-1 in
+    parts_read c.lanes-list.result.now (vec_len c.loop-hand.handles) (into_iter_len c.loop-hand.hand-iterator + own) own c.captures.desks.items c.loop-hand.desks.items c.read.new.desks.items (omega arith) (first_desks c.requires.desks c.lanes-list.ensures) i.2 c.read.ensures.desks i.3 c.read.ensures.each
+
 pub join_all_many-requires-clause-room : goal.join_all_many-requires-clause-room
 join_all_many-requires-clause-room g c = λ κs lives.
     let i = c.loop-hand.invariant in
-    room_read c.lanes-list.result.now (vec_len c.loop-hand.handles) (into_iter_len c.loop-hand.hand-iterator) c.captures.desks.items c.loop-hand.desks.items c.read.new.desks.items (first_desks c.requires.desks c.lanes-list.ensures) i.2 c.read.ensures.desks i.3 c.read.ensures.each
+    let list = c.lanes-list.result.now in
+    let n = vec_len c.loop-hand.handles in
+    let rest = into_iter_len c.loop-hand.hand-iterator + count_in c.loop-hand.own-1 in
+    room_kept list n c.read.new.desks.items c.help_many.new.desks.items c.read.ensures.desks c.in-Some-help_many.ensures.desks c.in-Some-help_many.ensures.gathers
+    (room_read list n rest c.captures.desks.items c.loop-hand.desks.items c.read.new.desks.items (first_desks c.requires.desks c.lanes-list.ensures) i.2 c.read.ensures.desks i.3 c.read.ensures.each)
 
 pub returns : goal.returns
 returns g c =
     let i = c.loop-hand.invariant in
     let list = c.lanes-list.result.now in
+    let n = vec_len c.loop-hand.handles in
+    let rest = into_iter_len c.loop-hand.hand-iterator + count_in c.loop-hand.own-1 in
+    let helped = c.in-Some-help_many.ensures in
+    let joined = c.in-Some-join_all_many.ensures in
+    let last = c.join_all_many.new.desks.items in
     record {
-      read = subst (λ (ls : List Lane). Each HasReadIn ls c.captures.desks.items c.join_all_many.new.desks.items) c.lanes-list.ensures
-          (all_joined list (vec_len c.loop-hand.handles) (into_iter_len c.loop-hand.hand-iterator) c.captures.desks.items c.loop-hand.desks.items c.read.new.desks.items c.join_all_many.new.desks.items c.requires.rows i.2 c.read.ensures.desks i.3 c.read.ensures.each c.in-Some-join_all_many.ensures.gathers);
-      desks = subst (λ (ls : List Lane). AreDesks ls c.join_all_many.new.desks.items) c.lanes-list.ensures c.in-Some-join_all_many.ensures.desks;
+      read = subst (λ (ls : List Lane). Each HasReadIn ls c.captures.desks.items last) c.lanes-list.ensures
+          (all_joined list n rest c.captures.desks.items c.loop-hand.desks.items c.read.new.desks.items last c.requires.rows i.2 c.read.ensures.desks i.3 c.read.ensures.each
+          (then_joined list n c.read.new.desks.items c.help_many.new.desks.items last helped.desks helped.gathers joined.gathers));
+      desks = subst (λ (ls : List Lane). AreDesks ls last) c.lanes-list.ensures joined.desks;
       made = c.read.ensures.reads;
       back = tt;
     }

@@ -36,13 +36,23 @@ loop-hand-preserved g c =
       )
     ]
 
+pub help-requires-clause-parts : goal.help-requires-clause-parts
+help-requires-clause-parts g c = λ κs lives.
+    let i = c.loop-hand.invariant in
+    omega (arith, i.4, i.5, c.read.ensures.parts, ap (λ (s : Sitter). s.view.parts) c.new-desk.ensures.seat)
+
+pub help-requires-clause-room : goal.help-requires-clause-room
+help-requires-clause-room g c = λ κs lives.
+    let i = c.loop-hand.invariant in
+    omega (arith, i.4, c.read.ensures.parts, c.requires.parts.1, ap (λ (s : Sitter). s.view.parts) c.new-desk.ensures.seat)
+
 pub join_all-requires : goal.join_all-requires
 join_all-requires g c =
     let i = c.loop-hand.invariant in
     let kept = c.read.ensures in
     record {
-      table = kept.desk.table;
-      room = omega (arith, i.4, kept.parts, c.requires.parts.1, ap (λ (s : Sitter). s.view.parts) c.new-desk.ensures.seat);
+      table = c.help.ensures.table ∙ kept.desk.table;
+      room = omega (arith, i.4, kept.parts, c.help.ensures.parts, c.requires.parts.1, ap (λ (s : Sitter). s.view.parts) c.new-desk.ensures.seat);
       each = i.6;
     }
 
@@ -54,10 +64,11 @@ returns g c =
     let d = c.new-desk.result in
     let kept = c.read.ensures in
     let same : d.seat.view.parts ≡ c.loop-hand.seat.view.parts = ap (λ (s : Sitter). s.view.parts) c.new-desk.ensures.seat in
+    let more = gathers_trans ctx cells c.read.new.desk.seat.view c.help.new.seat.view c.join_all.new.seat.view c.loop-hand.rows.items c.help.new.rows.items c.join_all.new.rows.items c.in-Some-help.ensures.gathers c.in-Some-join_all.ensures.gathers in
     record {
       read = has_read ctx cells c.captures.board.now c.captures.seat.view c.loop-hand.seat.view c.loop-hand.rows.items c.join_all.new.rows.items d c.read.new.desk c.join_all.new.seat i.3
-          (ap (λ (s : Sitter). s.view) c.new-desk.ensures.seat) kept.idle kept.desk c.in-Some-join_all.ensures.gathers (c.join_all.ensures.table ∙ kept.desk.table)
-          (omega (arith, i.4, kept.parts, same, c.in-Some-join_all.ensures.parts));
+          (ap (λ (s : Sitter). s.view) c.new-desk.ensures.seat) kept.idle kept.desk more (c.join_all.ensures.table ∙ (c.help.ensures.table ∙ kept.desk.table))
+          (omega (arith, i.4, kept.parts, same, c.help.ensures.parts, c.in-Some-join_all.ensures.parts));
       made = kept.reads;
       back = tt;
     }
