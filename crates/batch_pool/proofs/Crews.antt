@@ -394,24 +394,10 @@ module _ (lanes : List Lane) where
       let u = element_at read k (omega arith) in
       (t.0, u.0, record { mid = t.1; after = u.1; started = a k l s t.0 lane was t.1; reads = b k l t.0 u.0 lane t.1 u.1; is = are'.each k l u.0 lane u.1 })
 
-  pub room_read : (n rest : ℕ) (old now read : List LaneDesk) → AreDesks lanes old → AreDesks lanes now → AreDesks lanes read → Each (HasStarted n rest) lanes old now → Each Reads lanes now read → HaveRoom n read
-  room_read n rest old now read are are' are'' a b k u at =
-      let c = are.count in
-      let c'' = are''.count in
-      let w = slice_get_within read k u at in
-      let o = element_at old k (omega arith) in
-      let l = element_at lanes k (omega arith) in
-      let m = between k n rest l.0 old now read o.0 l.1 o.1 are' are'' a b in
-      let same : m.1 ≡ u = some_one read k m.1 u m.2.after at in
-      let h = m.2.started in
-      let p = h.parts in
-      let r = h.small in
-      let q = m.2.reads.parts in
-      let e = ap (λ (d : LaneDesk). d.desk.seat.view.parts) same in omega arith
-
-  -- after the reading there are parts for those that may still be split off
-  pub parts_read : (n rest own : ℕ) (old now read : List LaneDesk) → own ≤ rest → AreDesks lanes old → AreDesks lanes now → AreDesks lanes read → Each (HasStarted n rest) lanes old now → Each Reads lanes now read → HaveParts own read
-  parts_read n rest own old now read few are are' are'' a b k u at =
+  -- after the reading a desk's seat has the parts that weren't split off, more than may still be
+  pub parts_left : (n rest : ℕ) (old now read : List LaneDesk) → AreDesks lanes old → AreDesks lanes now → AreDesks lanes read → Each (HasStarted n rest) lanes old now → Each Reads lanes now read
+      → (k : ℕ) (u : LaneDesk) → slice_get read k ≡ Some u → (rest < u.desk.seat.view.parts) × (u.desk.seat.view.parts + n < 18446744073709551616)
+  parts_left n rest old now read are are' are'' a b k u at =
       let c = are.count in
       let c'' = are''.count in
       let w = slice_get_within read k u at in
@@ -425,6 +411,15 @@ module _ (lanes : List Lane) where
       let r = h.small in
       let q = m.2.reads.parts in
       let e = ap (λ (d : LaneDesk). d.desk.seat.view.parts) same in (omega arith, omega arith)
+
+  pub room_read : (n rest : ℕ) (old now read : List LaneDesk) → AreDesks lanes old → AreDesks lanes now → AreDesks lanes read → Each (HasStarted n rest) lanes old now → Each Reads lanes now read → HaveRoom n read
+  room_read n rest old now read are are' are'' a b k u at = (parts_left n rest old now read are are' are'' a b k u at).1
+
+  pub parts_read : (n rest own : ℕ) (old now read : List LaneDesk) → own ≤ rest → AreDesks lanes old → AreDesks lanes now → AreDesks lanes read → Each (HasStarted n rest) lanes old now → Each Reads lanes now read → HaveParts own read
+  parts_read n rest own old now read few are are' are'' a b k u at =
+      let p = parts_left n rest old now read are are' are'' a b k u at in
+      let q = p.0 in
+      let r = p.1 in (omega arith, omega arith)
 
   pub all_joined : (n rest : ℕ) (old now read last : List LaneDesk) → HaveNoRows old → AreDesks lanes now → AreDesks lanes read → Each (HasStarted n rest) lanes old now → Each Reads lanes now read → Each (GathersIn n) lanes read last → Each HasReadIn lanes old last
   all_joined n rest old now read last none are are' a b c k l s v lane before after =

@@ -294,7 +294,10 @@ pub fn read_beside<R: Threads + Wait + Sync, S: Source, G: Gate>(
     ensures front { TookFront (S.left source.old) (S.faults source.old) (S.left source.new) (S.faults source.new) }
 {
     let workers = workers_for(rt, workers);
-    keep_freed(alloc);
+    // (codes are freed by threads that end, whose heaps would keep them)
+    if !compilation.keeps_codes() {
+        keep_freed(alloc);
+    }
     // Why: docs/DECISIONS.md, "Bodies are read in rounds"
     let mut chunk = chunk;
     loop {
