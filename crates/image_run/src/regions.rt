@@ -1,6 +1,6 @@
 //! The bytes that an image is loaded to.
 ghost use Rattle.std.specs.Prelude.{◌≡◌, ◌+◌, ◌*◌, ◌≤◌, IfOk, IsTrue, length};
-ghost use Rattle.rv64im_machine.specs.Contents.{bytes_of};
+ghost use Rattle.fused_steps.specs.States.{bytes_of};
 ghost use Rattle.wasm_defs.specs.Instances.{all_fit, all_over, over};
 ghost use Rattle.wasm_defs.specs.Memory.{page};
 ghost use Rattle.image_format.specs.Environment.{row_words, segments_of, stack_size, word_bytes};

@@ -1,11 +1,2 @@
-pub mod RegisterLaws
-mod BaseLaws
-pub mod WindowLaws
 pub mod Underway
-pub mod SequenceLaws
-pub mod ConstantLaws
 pub mod TransitionLaws
-pub mod TurnLaws
-pub mod LoopLaws
-pub mod WholeTurns
-pub mod ControlLaws

@@ -1,12 +1,12 @@
 pub mod Contents
-pub mod Flows
+pub use Rattle.fused_steps.specs.States
+pub use Rattle.fused_steps.specs.Flows
 pub use Rattle.decode_cache.specs.Instructions
 pub mod Outcomes
 pub mod Lending
 pub use Rattle.linear_memory.specs.Linear
 pub use Rattle.linear_memory.specs.LinearLending
-pub mod Sequences
-pub mod Operands
+pub use Rattle.fused_steps.specs.Sequences
 pub use Rattle.decode_cache.specs.FusedWords
 pub use Rattle.decode_cache.specs.Caching
 pub mod Machines

@@ -6,29 +6,16 @@
 //! steps at once, as far as no one of them faults, and what it does is what the single steps do.
 #![tactic(auto)]
 
-mod advance;
-mod arithmetic;
-mod control;
 mod direct;
-mod dispatch;
 mod execution;
-mod loops;
 mod machine;
-mod operands;
 mod outcome;
-mod pairs;
-mod pieces;
-mod regions;
-mod rows;
 mod running;
-mod single;
-mod templates;
 mod transition;
-mod values;
 mod words;
 
+pub use fused_steps::Regions;
 pub use linear_memory::LinearMemory;
 pub use machine::Machine;
 pub use outcome::{Ran, Stepped};
-pub use regions::Regions;
 pub use rv_isa::{FaultKind, Region};
