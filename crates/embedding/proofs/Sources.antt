@@ -3,9 +3,9 @@ use Rattle.std.proofs.Common.{◌≡◌, ℕ, false, List, ◌++◌, Option, Som
 use Rattle.wasm_defs.specs.declared.fault.Refusal.{Refusal}
 use Rattle.wasm_defs.specs.Faults.{Rejected}
 use Rattle.image_linker.specs.Judging.{IsVerdictOf}
-use Rattle.stream_compile.specs.declared.answer.Answer.TheVariants as answer
-use Rattle.stream_compile.specs.Received.{AreReceived}
-use Rattle.stream_compile.specs.Compiling.{CompilesSource}
+use Rattle.source_reading.specs.declared.answer.Answer.TheVariants as answer
+use Rattle.source_reading.specs.Received.{AreReceived}
+use Rattle.source_reading.specs.Compiling.{CompilesSource}
 use Rattle.embedding.specs.declared.compiling.Compiled.TheVariants as compiled
 use Rattle.embedding.specs.Modules.{IsCompiled}
 

@@ -8,10 +8,10 @@ use Rattle.image_linker.specs.Judging.{IsModuleOf, IsVerdictOf}
 use Rattle.command_words.specs.declared.command.Call.{Call}
 use Rattle.command_words.specs.declared.command.Drill.{Drill}
 use Rattle.module_gen.specs.Drill.{drill_bytes}
-use Rattle.stream_compile.specs.declared.answer.Answer.TheVariants as answer
+use Rattle.source_reading.specs.declared.answer.Answer.TheVariants as answer
 use Rattle.module_stream.specs.declared.built.Built.{Built}
-use Rattle.stream_compile.specs.Received.{AreReceived}
-use Rattle.stream_compile.specs.Compiling.{CompilesSource}
+use Rattle.source_reading.specs.Received.{AreReceived}
+use Rattle.source_reading.specs.Compiling.{CompilesSource}
 use Rattle.stream_compile.specs.Running.{RunsAs}
 use Rattle.stream_compile.specs.Texts.{Outcome, OfDrill, drill_call}
 use Rattle.stream_compile.proofs.Calls.{run_done}

@@ -10,7 +10,7 @@ use Rattle.io_edges.specs.declared.reading.Stop.TheVariants.{End, Failed, Full}
 use Rattle.image_format.specs.Contents.{Image}
 use Rattle.image_format.specs.Reading.{image_or_offset}
 use Rattle.stream_compile.specs.declared.foreign.LoadedImage.TheVariants as foreign
-use Rattle.stream_compile.specs.Received.{AreReceivedUpTo, image_input}
+use Rattle.source_reading.specs.Received.{AreReceivedUpTo, image_input}
 use Rattle.stream_compile.specs.Running.{IsForeign}
 
 rose_lt : (before now : ℕ) → before < 2 ^ 64 - 1 → Rose before now → before < now

@@ -1,11 +1,5 @@
 pub mod Joins
-pub mod Settling
 pub mod ManyLines
-pub mod Pumping
-pub mod Chunking
-pub mod Fronts
-pub mod Arriving
-pub mod Keeping
 pub mod Answering
 pub mod Lasting
 pub mod Calls

@@ -17,7 +17,7 @@ use Rattle.many_streams.specs.Frames.{IsBadFrame, IsCutOff}
 use Rattle.many_streams.specs.Members.{IsEachChecked}
 use Rattle.many_streams.specs.Many.{AreEach, ChecksMany}
 use Rattle.stream_compile.specs.declared.output.Output.{Output}
-use Rattle.stream_compile.specs.Reading.{view}
+use Rattle.stream_compile.specs.Outputs.{view}
 use Rattle.stream_compile.specs.Texts.{TellsCheck, OfModule, AreChecked, OfFrames, ComesTo, read_fault, kind_name, bad_frame, many_line, many_text, many_status, said, told_many}
 use Rattle.stream_compile.proofs.Answering.{valid_outcome}
 use Rattle.stream_compile.proofs.Joins.{five}

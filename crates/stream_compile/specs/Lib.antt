@@ -1,8 +1,5 @@
 pub mod Running
-pub mod Received
 pub mod Texts
-pub mod Reading
-pub mod Compiling
-pub mod Chunks
-pub mod Keeping
-pub mod Arriving
+pub mod Outputs
+pub use Rattle.source_reading.specs.Received
+pub use Rattle.source_reading.specs.Compiling

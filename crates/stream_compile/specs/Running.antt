@@ -10,7 +10,7 @@ use Rattle.wasi_host.specs.declared.run_end.RunEnd.{RunEnd}
 use Rattle.wasi_host.specs.declared.run_end.RunEnd.TheVariants as run_end
 use Rattle.stream_compile.specs.declared.foreign.LoadedImage.{LoadedImage}
 use Rattle.stream_compile.specs.declared.foreign.LoadedImage.TheVariants as foreign
-use Rattle.stream_compile.specs.Received.{AreReceivedUpTo, image_input}
+use Rattle.source_reading.specs.Received.{AreReceivedUpTo, image_input}
 use Rattle.stream_compile.specs.Texts.{Outcome, Told, arguments_of, exited, machine_fault, returned_by, showing, steps_spent, trapped, TellsImageCall}
 
 -- the lines of an end of a run, with its results

@@ -56,7 +56,7 @@ use Rattle.many_streams.specs.Frames.{Frames, IsBadFrame, IsCutOff}
 use Rattle.many_streams.specs.Many.{IsFront}
 use Rattle.module_stream.specs.declared.settings.Settings.{Settings}
 use Rattle.module_stream.specs.ValidPrefixes.{closing_bytes}
-use Rattle.stream_compile.specs.Received.{AreReceived, AreReceivedUpTo, image_input}
+use Rattle.source_reading.specs.Received.{AreReceived, AreReceivedUpTo, image_input}
 
 -- a status, and what is written
 pub record Outcome : Type 0 where

@@ -4,11 +4,10 @@ ghost use Rattle.std.specs.Prelude.{◌≡◌, ◌<◌, ◌^◌, ◌-◌, true, 
 ghost use Rattle.io_edges.specs.Streams.{TookFront};
 ghost use Rattle.command_words.specs.Grammar.{IsInRange};
 ghost use Rattle.command_words.specs.declared.command.Command.TheVariants.{Check, Compile, Exec, Many, Run as RunCommand};
-ghost use Rattle.stream_compile.specs.Reading.{view};
+ghost use Rattle.stream_compile.specs.Outputs.{view};
 ghost use Rattle.stream_compile.specs.Running.{IsTold};
 ghost use Rattle.stream_compile.specs.Texts.{command_said, settings_of, ComesTo, AnswersAndWrites, ReadsNothing};
 
-use crate::answer::{Answer, CheckAnswer};
 use crate::compiling::{stream_check, stream_compile};
 use crate::drill::drill;
 use crate::foreign::{LoadedImage, read_foreign};
@@ -21,6 +20,7 @@ use command_words::{Call, Command, Options, Run, WordsStop, command_of};
 use io_edges::{Gate, Sink, Source};
 use many_streams::{ManyStop, check_many};
 use module_stream::Settings;
+use source_reading::{Answer, CheckAnswer};
 use std::alloc::{AllocError, Global};
 use std::sync::Wait;
 use std::thread::Threads;
@@ -168,7 +168,7 @@ fn exec<S: Source, O: Sink>(
 
 /// Writes what the source comes to, and gives the status: where there is no command, the command line asks for nothing. There,
 /// and where the command is `drill`, the source stays as it is.
-#[tactic(auto, using(crate::proofs::Fronts::took_nothing))]
+#[tactic(auto, using(source_reading::proofs::Fronts::took_nothing))]
 fn answer_to<R: Threads + Wait + Sync, S: Source, O: Sink, G: Gate>(
     rt: &R,
     alloc: Global,
@@ -210,7 +210,7 @@ fn answer_to<R: Threads + Wait + Sync, S: Source, O: Sink, G: Gate>(
 /// the machine had no step, and 10 where the bytes are no image; the last two come of `exec` alone. It is 11 where the run called
 /// `proc_exit` with another code than 0, and 12 where the bytes are no frames, which comes of `many` alone; that gives 2 where one
 /// of the modules is refused. For a command line outside the command grammar, and for `drill`, the source isn't read.
-#[tactic(auto, using(crate::proofs::Fronts::took_nothing))]
+#[tactic(auto, using(source_reading::proofs::Fronts::took_nothing))]
 pub fn top<R: Threads + Wait + Sync, S: Source, O: Sink, G: Gate>(
     rt: &R,
     alloc: Global,

@@ -3,12 +3,11 @@
 ghost use Rattle.std.specs.Prelude.{◌≡◌, ◌<◌, ◌^◌, ◌-◌, true, nat_lt};
 ghost use Rattle.io_edges.specs.Streams.{TookFront};
 ghost use Rattle.module_stream.specs.ValidPrefixes.{closing_bytes};
-ghost use Rattle.stream_compile.specs.Compiling.{CompilesSource, ChecksSource};
+ghost use Rattle.source_reading.specs.Compiling.{CompilesSource, ChecksSource};
 
-use crate::answer::{Answer, CheckAnswer};
-use crate::reading::judge_source;
 use io_edges::{Gate, Source};
 use module_stream::{Codes, Compilation, Settings};
+use source_reading::{Answer, CheckAnswer, judge_source};
 use std::alloc::Global;
 use std::sync::Wait;
 use std::thread::Threads;

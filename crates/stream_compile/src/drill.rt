@@ -4,7 +4,6 @@ ghost use Rattle.std.specs.Prelude.{◌≡◌, ◌≤◌, ◌<◌, ◌^◌, ◌-
 ghost use Rattle.stream_compile.specs.Running.{IsTold};
 ghost use Rattle.stream_compile.specs.Texts.{drill_call, OfDrill};
 
-use crate::answer::Answer;
 use crate::compiling::stream_compile;
 use crate::output::{read_fault, rejected};
 use crate::running::run_image;
@@ -13,6 +12,7 @@ use command_words::{Arguments, Call, Drill, Export};
 use io_edges::{Flat, Gate, Sink};
 use module_gen::drill_module;
 use module_stream::Settings;
+use source_reading::Answer;
 use std::alloc::{AllocError, Global};
 use std::sync::Wait;
 use std::thread::Threads;

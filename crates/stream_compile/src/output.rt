@@ -1,7 +1,7 @@
 //! What the program answers where it answers lines: a status, and the lines for standard output.
 
 ghost use Rattle.std.specs.Prelude.{◌≡◌, IfOk};
-ghost use Rattle.stream_compile.specs.Reading.{view};
+ghost use Rattle.stream_compile.specs.Outputs.{view};
 ghost use Rattle.stream_compile.specs.Texts.{usage, read_fault, accepted, kind_name, rejected, reason, unrunnable, bad_image};
 
 use image_run::NotRunnable;

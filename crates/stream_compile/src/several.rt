@@ -1,7 +1,7 @@
 //! The lines of several modules.
 
 ghost use Rattle.std.specs.Prelude.{◌≡◌, IfOk, map, string_bytes};
-ghost use Rattle.stream_compile.specs.Reading.{view};
+ghost use Rattle.stream_compile.specs.Outputs.{view};
 ghost use Rattle.stream_compile.specs.Texts.{bad_frame, many_line, many_status, many_text, said, told_many};
 
 use crate::output::{Output, kind_name};

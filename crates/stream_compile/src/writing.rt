@@ -6,7 +6,7 @@ ghost use Rattle.std.specs.List.{flat_map};
 ghost use Rattle.wasm_defs.specs.Values.{Value as ModuleValue, trap_text, value_of};
 ghost use Rattle.io_edges.specs.Streams.{WritesText};
 ghost use Rattle.image_run.specs.Ends.{TellsCount};
-ghost use Rattle.stream_compile.specs.Reading.{view};
+ghost use Rattle.stream_compile.specs.Outputs.{view};
 ghost use Rattle.wasi_host.specs.Hosted.{outcome_of};
 ghost use Rattle.stream_compile.specs.Running.{line_of, lines_of, shown_after};
 ghost use Rattle.stream_compile.specs.Texts.{drill_line, drilled, exited, fault_name, machine_fault, peeked, returned, returned_by, Told, trap_place, trapped};

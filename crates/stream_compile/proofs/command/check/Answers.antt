@@ -1,5 +1,5 @@
 use Rattle.std.specs.Prelude.{nat_lt}
-use Rattle.stream_compile.specs.declared.answer.CheckAnswer.TheVariants.{Valid, Refused, ReadFault}
+use Rattle.source_reading.specs.declared.answer.CheckAnswer.TheVariants.{Valid, Refused, ReadFault}
 use Rattle.stream_compile.specs.Texts.{closing_of, TellsCheck}
 use Rattle.stream_compile.proofs.Answering.{checks_with, valid_comes, rejected_comes, read_fault_comes}
 use Rattle.stream_compile.proofs.command.check.Goals as goal

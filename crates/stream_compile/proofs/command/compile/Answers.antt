@@ -2,8 +2,8 @@ use Rattle.std.specs.Prelude.{◌≡◌, nat_lt, Some, Ok}
 use Rattle.command_words.specs.declared.command.Command.TheVariants.{Compile}
 use Rattle.image_format.specs.ImageBytes.{spelling}
 use Rattle.module_stream.specs.ValidPrefixes.{closing_bytes}
-use Rattle.stream_compile.specs.declared.answer.Answer.TheVariants.{Image, Refused}
-use Rattle.stream_compile.specs.Reading.{view}
+use Rattle.source_reading.specs.declared.answer.Answer.TheVariants.{Image, Refused}
+use Rattle.stream_compile.specs.Outputs.{view}
 use Rattle.stream_compile.specs.Texts.{closing_of, compiled, ComesTo, TellsImage}
 use Rattle.stream_compile.proofs.Answering.{compiles_with, written_comes, is_short, rejected_comes}
 use Rattle.stream_compile.proofs.Printed.{told_as}

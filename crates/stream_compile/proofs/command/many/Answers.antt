@@ -3,7 +3,7 @@ use Rattle.std.specs.Prelude.{nat_lt, IfOk}
 use Rattle.many_streams.specs.declared.member.EachChecked.{EachChecked}
 use Rattle.many_streams.specs.declared.streams.ManyStop.{ManyStop}
 use Rattle.many_streams.specs.Many.{ChecksMany}
-use Rattle.stream_compile.specs.Reading.{view}
+use Rattle.stream_compile.specs.Outputs.{view}
 use Rattle.stream_compile.specs.Texts.{said, told_many}
 use Rattle.stream_compile.proofs.ManyLines.{told_comes, frame_comes, fault_comes}
 use Rattle.stream_compile.proofs.command.many.Goals as goal

@@ -1,8 +1,8 @@
 use Rattle.std.specs.Prelude.{nat_lt, None, Some, Ok}
 use Rattle.command_words.specs.declared.command.Command.TheVariants.{Run}
-use Rattle.stream_compile.specs.Reading.{view}
+use Rattle.stream_compile.specs.Outputs.{view}
 use Rattle.stream_compile.specs.Running.{RunsAs}
-use Rattle.stream_compile.specs.declared.answer.Answer.TheVariants.{Image, Refused}
+use Rattle.source_reading.specs.declared.answer.Answer.TheVariants.{Image, Refused}
 use Rattle.stream_compile.specs.Texts.{closing_of, ComesTo, TellsCall}
 use Rattle.stream_compile.proofs.Answering.{compiles_with, image_comes, rejected_comes}
 use Rattle.stream_compile.proofs.Printed.{told_as}

@@ -1,6 +1,6 @@
 use Rattle.std.specs.Prelude.{nat_lt}
 use Rattle.module_stream.specs.ValidPrefixes.{closing_bytes}
-use Rattle.stream_compile.specs.declared.answer.CheckAnswer.TheVariants.{Valid}
+use Rattle.source_reading.specs.declared.answer.CheckAnswer.TheVariants.{Valid}
 use Rattle.stream_compile.proofs.Answering.{judged_at, judged_done, judged_built, refused_compiles, fault_compiles}
 use Rattle.stream_compile.proofs.compiling.stream_compile.Goals as goal
 

@@ -1,7 +1,7 @@
 use Rattle.std.proofs.Common.{◌∙◌}
 use Rattle.std.specs.Prelude.{nat_lt, Some}
 use Rattle.module_stream.specs.ValidPrefixes.{closing_bytes}
-use Rattle.stream_compile.specs.Reading.{view}
+use Rattle.stream_compile.specs.Outputs.{view}
 use Rattle.stream_compile.specs.Running.{RunsAs}
 use Rattle.stream_compile.specs.Texts.{OfDrill}
 use Rattle.stream_compile.proofs.Drills.{image_drills, refused_drills}

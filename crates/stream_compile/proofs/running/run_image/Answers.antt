@@ -1,5 +1,5 @@
 use Rattle.std.proofs.Common.{refl, arith}
-use Rattle.stream_compile.specs.Reading.{view}
+use Rattle.stream_compile.specs.Outputs.{view}
 use Rattle.stream_compile.proofs.ImageCalls.{begun, unrunnable_runs}
 use Rattle.stream_compile.proofs.Printed.{ended_told, failed_told}
 use Rattle.stream_compile.proofs.running.run_image.Goals as goal

@@ -1,0 +1,6 @@
+pub mod Received
+pub mod Reading
+pub mod Compiling
+pub mod Chunks
+pub mod Keeping
+pub mod Arriving

@@ -1,6 +1,0 @@
-use Rattle.std.proofs.Common.{None}
-use Rattle.stream_compile.proofs.Arriving.{none_given}
-use Rattle.stream_compile.proofs.reading.read_to_end.Goals as goal
-
-pub returns-clause-settled : goal.returns-clause-settled
-returns-clause-settled g c = λ first before low a. c.in-Some.ensures.reads None first before (none_given _) a low
