@@ -1,6 +1,6 @@
 -- A word is at most one argument, and `argument_in` computes it.
 use Rattle.std.proofs.Common.{◌≡◌, ◌∙◌, ◌<◌, ◌≤◌, ◌++◌, ℕ, Bool, true, false, List, [], ◌∷◌, length, ap, sym, subst, inl, inr, arith, slice_index, refl, suc, zero}
-use Rattle.std.specs.Prelude.{◌==◌, ◌&&◌, ◌^◌, ◌≢◌, ◌↔◌, Any, Decides, FitsSigned, None, Option, Some, codes, cond, drop, nat_eq, nat_lt, nat_le, not, slice_index_or, unwrap_or, option_and_then, option_map, ℤ, pos, negsuc, neg_ℤ}
+use Rattle.std.specs.Prelude.{◌==◌, ◌&&◌, ◌^◌, ◌↔◌, Any, Decides, FitsSigned, None, Option, Some, codes, cond, drop, nat_eq, nat_lt, nat_le, not, slice_index_or, unwrap_or, option_and_then, option_map, ℤ, pos, negsuc, neg_ℤ}
 use Rattle.std.specs.List.{list_all, starts_with}
 use Rattle.std.specs.Char.{digit_value}
 use Rattle.std.specs.Str.Parse.{AllDigits, IsNumeral, digits_value}

@@ -1,5 +1,5 @@
 -- The parts of an image's bytes are its one encoding.
-use Rattle.std.proofs.Common.{◌≡◌, ◌∙◌, ℕ, List, [], ◌++◌, length, refl, ap, append_assoc}
+use Rattle.std.proofs.Common.{◌≡◌, ◌∙◌, ℕ, List, ◌++◌, length, refl, ap, append_assoc}
 use Rattle.std.specs.List.{flat_map}
 use Rattle.image_format.specs.declared.limits.TheConstants.{MAGIC}
 use Rattle.image_format.specs.declared.image.TrapPlace.{TrapPlace}

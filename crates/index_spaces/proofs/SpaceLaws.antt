@@ -1,5 +1,5 @@
 -- Items that are added to a module, one by one.
-use Rattle.std.proofs.Common.{◌≡◌, ◌+◌, List, [], ◌∷◌, ◌++◌, None, Some, refl, ap, append-nil, add-zero}
+use Rattle.std.proofs.Common.{◌≡◌, List, [], ◌∷◌, ◌++◌, None, Some, refl, ap, append-nil, add-zero}
 use Rattle.std.proofs.Common.{length-append}
 use Rattle.std.specs.Option.{option_or}
 use Rattle.wasm_defs.specs.declared.item.Item.{Item}

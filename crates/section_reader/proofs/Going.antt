@@ -4,7 +4,7 @@ use Rattle.std.proofs.Math.Seq.{drop-length}
 use Rattle.std.proofs.lemmas.Bool.{cases_Bool, le-ltb, eqb-true}
 use Rattle.std.proofs.lemmas.List.{append-nil}
 use Rattle.wasm_defs.specs.declared.item.Item.{Item}
-use Rattle.wasm_defs.specs.Fields.{Cursor, Got, Wants, Reader, past, room_of, window, run}
+use Rattle.wasm_defs.specs.Fields.{Cursor, Got, Reader, past, room_of, window, run}
 use Rattle.wasm_defs.specs.Entries.{Seen, note}
 use Rattle.wasm_defs.specs.Outside.{position_of, Section, Listed, Nothing, rest_of_section, header, preamble, section_end, entered, inside, no_end}
 use Rattle.wasm_laws.specs.Steadiness.{Advance}

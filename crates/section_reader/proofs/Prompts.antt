@@ -3,7 +3,7 @@ use Rattle.std.proofs.Common.{◌≡◌, ◌≤◌, ◌<◌, ℕ, suc, ◌+◌, 
 use Rattle.std.proofs.lemmas.Bool.{cases_Bool, cases_lt, lt-ltb, le-ltb, lt-leb, le-leb}
 use Rattle.wasm_defs.specs.declared.fault.Kind.{Kind}
 use Rattle.wasm_defs.specs.Numbers.{Reading, Number, CutOff, Bad, number_at, after_byte}
-use Rattle.wasm_defs.specs.Fields.{Cursor, Read, Got, Fault, Wants, Reader, then_go, ◌>>=◌, done, refused, room_of, window, past, cut, first_of, byte, from_reading, number, nat_of, count, run, room, here, stop, agree, fixed, text_after, least, length_owed, name_from, name}
+use Rattle.wasm_defs.specs.Fields.{Cursor, Read, Got, Fault, Wants, Reader, then_go, ◌>>=◌, done, refused, room_of, window, past, cut, first_of, byte, from_reading, number, nat_of, run, room, here, stop, agree, fixed, text_after, least, length_owed, name_from, name}
 use Rattle.wasm_defs.specs.Entries.{Seen, code}
 use Rattle.wasm_defs.specs.Outside.{header, preamble, left_over, section_end}
 use Rattle.wasm_defs.proofs.NumberLaws.{last_is_whole, after_cut}

@@ -1,6 +1,6 @@
 -- A property that fields have and that sequences keep is one of all readers outside bodies: of entries, and of what is before and
 -- after them.
-use Rattle.std.proofs.Common.{◌<◌, ℕ, zero, suc, Bool, true, false, cond, ltb, eqb, List, [], arith, inl, inr}
+use Rattle.std.proofs.Common.{◌<◌, ℕ, zero, suc, Bool, true, false, cond, ltb, eqb, List, arith, inl, inr}
 use Rattle.std.proofs.lemmas.Bool.{cases_Bool}
 use Rattle.wasm_defs.specs.declared.fault.Kind.{Kind}
 use Rattle.wasm_defs.specs.declared.fault.Kind.TheVariants.{Malformed, Unsupported, Limit, Invalid}

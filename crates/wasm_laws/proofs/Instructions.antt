@@ -1,7 +1,6 @@
 -- What holds of every instruction holds of each token of a body.
 use Rattle.std.proofs.Common.{Bool, ℕ, zero, suc, ◌+◌, List, [], ◌∷◌, length}
 use Rattle.wasm_defs.specs.declared.token.Token.{Token}
-use Rattle.wasm_defs.specs.declared.token.Token.TheVariants as token
 use Rattle.wasm_defs.specs.Fields.{Cursor, Read, Got, Fault, Wants, byte}
 use Rattle.wasm_defs.specs.Bodies.{Group, local_groups, instruction, depth_after, Spelled, closed, after_token, goes_on, spelled_from, body_cursor, last_of, read_code, body_read}
 use Rattle.wasm_laws.proofs.Steady.{IfGot, Advance, Advances, here_in}
