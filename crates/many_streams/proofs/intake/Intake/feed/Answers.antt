@@ -1,10 +1,9 @@
-use Rattle.std.proofs.Common.{◌≡◌, ◌++◌, ◌-◌, List, ℕ, true, false, length, take, drop, Some, Err, refl, sym, ap, subst, ◌∙◌, arith, length-drop}
+use Rattle.std.proofs.Common.{◌≡◌, ◌++◌, ◌-◌, List, ℕ, length, take, drop, Some, Err, refl, sym, ap, subst, ◌∙◌, arith, length-drop}
 use Rattle.std.proofs.lemmas.List.{take_all}
-use Rattle.std.specs.Prelude.{is_some}
 use Rattle.std.specs.declared.vec.Vec.{Vec}
 use Rattle.std.specs.declared.alloc.Global.{Global}
 use Rattle.wasm_defs.specs.declared.front_stop.FrontStop.{FrontStop}
-use Rattle.body_cutter.specs.Cuttings.{is_whole, Feeds}
+use Rattle.body_cutter.specs.Cuttings.{Feeds}
 use Rattle.many_streams.proofs.Intakes.{keeps_passed, keeps_rest, keeps_behind, keeps_inside, keeps_error}
 use Rattle.many_streams.proofs.intake.Intake.feed.Goals as goal
 

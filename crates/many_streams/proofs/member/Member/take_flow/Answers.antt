@@ -1,4 +1,4 @@
-use Rattle.std.proofs.Common.{rules, ◌≡◌, ◌∙◌, true, Option, None, sym, ap, refl, true≢false}
+use Rattle.std.proofs.Common.{rules, ◌≡◌, ◌∙◌, Option, None, sym, ap, refl, true≢false}
 use Rattle.std.specs.Prelude.{is_some}
 use Rattle.many_streams.specs.declared.intake.Intake.{Intake}
 use Rattle.many_streams.proofs.member.Member.take_flow.Goals as goal
