@@ -18,7 +18,7 @@ use Rattle.batch_pool.proofs.AfterReading.{has_read}
 use Rattle.batch_pool.specs.declared.lanes.crew.Crew.{Crew}
 use Rattle.batch_pool.specs.Gathering.{IsFresh, Gathers}
 use Rattle.batch_pool.specs.Working.{IsWorked, Grows}
-use Rattle.batch_pool.specs.Lanes.{AreFresh, Each, Works, Runs, IsWorkedMany, IsDeskOf, AreDesks, IsAt, GathersIn, Reads, HasReadIn, HaveNoRows, HaveParts, HaveRoom}
+use Rattle.batch_pool.specs.Lanes.{AreFresh, Each, Works, Runs, IsDeskOf, AreDesks, IsAt, GathersIn, Reads, HasReadIn, HaveNoRows, HaveParts, HaveRoom}
 use Rattle.batch_pool.specs.Crews.{Splits, IsOfCrew}
 use Rattle.batch_pool.proofs.Elements.{some_one, element_at, slice_set_same, slice_set_other, slice_front, slice_next, slice_push}
 use Rattle.batch_pool.proofs.GatheringLaws.{gathers_same, gathers_trans, gathers_split}
@@ -293,9 +293,6 @@ module _ (lanes : List Lane) where
 
   pub one_joined : (n m : ℕ) (xs ys zs : List LaneDesk) → m ≡ n + 1 → AreDesks lanes ys → Each (GathersIn n) lanes xs ys → Each (GathersIn 1) lanes ys zs → Each (GathersIn m) lanes xs zs
   one_joined n m xs ys zs same are a b = subst (λ (k : ℕ). Each (GathersIn k) lanes xs zs) (sym same) (each_trans lanes (GathersIn n) (GathersIn 1) (GathersIn (n + 1)) xs ys zs are.count (gathers_in_trans n 1) a b)
-
-  pub promised : {L : Type 0} (all : L → List Lane) (p : Crew L) (seats : List LaneSeat) (starved : Bool) → IsOfCrew all lanes p → IsWorkedMany (all p.lanes.now) p.seats.value.items seats starved → (s : List LaneSeat) × AreFresh lanes s × IsWorkedMany lanes s seats starved
-  promised all p seats starved of worked = (p.seats.value.items, of.1, subst (λ (x : List Lane). IsWorkedMany x p.seats.value.items seats starved) of.0 worked)
 
   pub crew_of : {L : Type 0} (all : L → List Lane) (p q : Crew L) (s : List LaneSeat) → p ≡ q → all q.lanes.now ≡ lanes → q.seats.value.items ≡ s → AreFresh lanes s → IsOfCrew all lanes p
   crew_of all p q s same of value fresh = subst (IsOfCrew all lanes) (sym same) (of, subst (AreFresh lanes) (sym value) fresh)

@@ -1,5 +1,5 @@
 -- Rows that are put at the numbers of their batches.
-use Rattle.std.proofs.Common.{◌≡◌, ◌<◌, ◌≤◌, ℕ, Bool, cond, set, List, [], ◌∷◌, length, All, get_or, Option, Some, None, sym, ap, ◌∙◌, arith, eq-eqb, ne_eqb, get_or-set_same, get_or-set_other, length-set}
+use Rattle.std.proofs.Common.{◌≡◌, ◌<◌, ℕ, Bool, cond, set, List, [], ◌∷◌, length, get_or, Option, Some, None, sym, ap, ◌∙◌, arith, eq-eqb, ne_eqb, get_or-set_same, get_or-set_other, length-set}
 use Rattle.std.proofs.lemmas.Option.{slice_get-get_or}
 use Rattle.std.specs.Prelude.{slice_get}
 use Rattle.std.specs.Arc.{arc_value}
@@ -18,9 +18,6 @@ row_here i row rest before is = ap (λ (b : Bool). last_row i rest (cond b (Some
 row_elsewhere : (i : ℕ) (row : Row) (rest : List Row) (before : Option Row) → ((arc_value row.batch).number ≡ i → ⊥) → last_row i (row ∷ rest) before ≡ last_row i rest before
 row_elsewhere i row rest before not = ap (λ (b : Bool). last_row i rest (cond b (Some row) before)) (ne_eqb (arc_value row.batch).number i not)
 
-pub placing_begins : (rows rest : List Row) (places : List (Option Row)) → rest ≡ rows → All (λ p. p ≡ None) places → ArePlaced rows places rest
-placing_begins rows rest places same empty i in' = ap (λ (o : Option Row). last_row i rest o) (empty i None in') ∙ ap (λ (l : List Row). last_row i l None) same
-
 module _ (rows all rest : List Row) (row : Row) (step : all ≡ row ∷ rest) where
   pub row_placed : (places places' : List (Option Row)) (number : ℕ) → ArePlaced rows places all → (arc_value row.batch).number ≡ number → number < length places → places' ≡ set places number (Some row) → ArePlaced rows places' rest
   row_placed places places' number old is in' sets i small =
@@ -33,11 +30,6 @@ module _ (rows all rest : List Row) (row : Row) (step : all ≡ row ∷ rest) wh
       (λ not. ap (λ (l : List (Option Row)). last_row i rest (get_or l i None)) sets
       ∙ (ap (λ (o : Option Row). last_row i rest o) (get_or-set_other places number i (Some row) None (λ e. not (omega (arith, e))))
       ∙ (sym (row_elsewhere i row rest (get_or places i None) (λ e. not (omega (arith, e, is)))) ∙ then')))
-
-  -- its number is past the last index
-  pub row_passed : (places : List (Option Row)) (number : ℕ) → ArePlaced rows places all → (arc_value row.batch).number ≡ number → length places ≤ number → ArePlaced rows places rest
-  row_passed places number old is past i small =
-      sym (row_elsewhere i row rest (get_or places i None) (λ e. absurd (omega (arith, e, is)))) ∙ (ap (λ (l : List Row). last_row i l (get_or places i None)) (sym step) ∙ old i small)
 
 pub placing_ends : (rows rest : List Row) (places : List (Option Row)) (count : ℕ) → ArePlaced rows places rest → length rest ≡ 0 → length places ≡ count → (i : ℕ) → i < count → slice_get places i ≡ Some (row_numbered i rows)
 placing_ends rows [] places count are none wide i in' = slice_get-get_or places i None (omega arith) ∙ ap (λ (o : Option Row). Some o) (are i (omega arith))

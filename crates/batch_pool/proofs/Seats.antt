@@ -66,9 +66,6 @@ module _ (lanes : List Lane) where
       let m = element_at ys k (omega arith) in
       both l s m.0 u (a k l s m.0 lane before m.1) (b k l m.0 u lane m.1 after)
 
-  pub each_weaker : {S : Type 0} (P Q : Lane → S → S → Type 0) (xs ys : List S) → ((l : Lane) (s t : S) → P l s t → Q l s t) → Each P lanes xs ys → Each Q lanes xs ys
-  each_weaker P Q xs ys of a k l s t lane before after = of l s t (a k l s t lane before after)
-
   -- one lane's seat has changed
   pub each_set : {S : Type 0} (P : Lane → S → S → Type 0) (n : ℕ) (seats : List S) (s s' : S) (here : Lane) → slice_get lanes n ≡ Some here → slice_get seats n ≡ Some s → P here s s'
       → ((k : ℕ) (l : Lane) (u : S) → k ≢ n → slice_get lanes k ≡ Some l → P l u u) → Each P lanes seats (set seats n s')

@@ -15,13 +15,7 @@ use Rattle.frame_layout.specs.Functions.{test_words}
 use Rattle.control_emit.specs.Pending.{Shape}
 use Rattle.control_emit.specs.Emits.{FunctionBuilder, Opens}
 use Rattle.control_emit.specs.Walks.{Step, end_shape, start_shape}
-use Rattle.body_compiler.specs.Steps.{HasParams, HasResults}
-
--- the counts of a type of the module
-pub params_are : (types : List FuncType) (i : ℕ) (o : Option FuncType) → slice_get types i ≡ o → HasParams types (Index i) (length (type_or_empty o).params)
-params_are types i None is c same = ap (λ (x : Option FuncType). length (or_empty (option_signature x)).params) (ap (λ (ts : List FuncType). slice_get ts i) same ∙ is)
-params_are types i (Some f) is c same =
-    ap (λ (x : Option FuncType). length (or_empty (option_signature x)).params) (ap (λ (ts : List FuncType). slice_get ts i) same ∙ is) ∙ length-reverse f.params
+use Rattle.body_compiler.specs.Steps.{HasResults}
 
 pub results_are : (types : List FuncType) (i : ℕ) (o : Option FuncType) → slice_get types i ≡ o → HasResults types (Index i) (length (type_or_empty o).results)
 results_are types i None is c same = ap (λ (x : Option FuncType). length (or_empty (option_signature x)).results) (ap (λ (ts : List FuncType). slice_get ts i) same ∙ is)

@@ -20,9 +20,6 @@ use Rattle.body_cutter.proofs.Batches.{joined_append}
 -- ---- by the bytes that came
 
 module _ (w : Walk) (sound : IsSound w) where
-  whole : Bool
-  whole = eqb w.count 0 && eqb w.at w.end
-
   hand : (o : Option Refusal) (s : Bool) → w.stop ≡ o → w.sized ≡ s → UnlessRefused o (IsInHand w s)
   hand o s e f = subst (λ (z : Bool). UnlessRefused o (IsInHand w z)) f (subst (λ (p : Option Refusal). UnlessRefused p (IsInHand w w.sized)) e sound.hand)
 

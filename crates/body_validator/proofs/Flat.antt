@@ -60,10 +60,6 @@ reverse-length xs n h g = omega (arith, length-reverse (take n xs), length-take-
 
 -- ---- what is taken
 
-pub some_or_none : {A : Type 0} (o : Option A) → is_some o ≡ false → o ≡ None
-some_or_none None e = refl
-some_or_none (Some x) e = absurd (cc)
-
 drop_nothing : (n : ℕ) → drop {A = Operand} n [] ≡ []
 drop_nothing zero = refl
 drop_nothing (suc n) = refl

@@ -4,13 +4,12 @@ use Rattle.std.specs.Prelude.{reverse, is_some, slice_get}
 use Rattle.std.proofs.lemmas.List.{reverse-append, length-reverse, length-take-le, length-drop, length-append, drop_all, drop_at, take_at, take-append-le, take_rest, set_split, get_or-reverse}
 use Rattle.body_validator.specs.declared.stack.Frame.{Frame as Flat}
 use Rattle.wasm_defs.specs.declared.types.ValType.TheVariants.{I32}
-use Rattle.body_validator.specs.declared.stack.Opening.{Opening}
 use Rattle.body_validator.specs.declared.stack.Opening.TheVariants.{Else as Elses}
-use Rattle.wasm_defs.specs.Typing.{Types, Signature, Discards, Selects}
-use Rattle.body_validator.specs.Checking.{Operand, Operands, Frames, ◌>>=◌, guarded, known, take_all as taken_all, is_of, Taken, take_any, joined, any_at, selected_of, label_of, labels, put, apply, applied, enter, turned, ended, fresh, height, none_left, closes, may_end, takes_else, starts_live, receive, is_live}
+use Rattle.wasm_defs.specs.Typing.{Types, Discards, Selects}
+use Rattle.body_validator.specs.Checking.{Operand, Operands, Frames, ◌>>=◌, guarded, known, take_all as taken_all, is_of, Taken, take_any, joined, any_at, selected_of, label_of, labels, put, apply, applied, enter, turned, ended, height, closes, may_end, takes_else, starts_live, receive, is_live}
 use Rattle.body_validator.specs.Stacks.{own_of, signature, frame_of, frames_of, IsLaid, HasLast, is_live_in, is_live_at}
 use Rattle.body_validator.proofs.Options.{and_true}
-use Rattle.body_validator.proofs.Flat.{take_all-drop, known-reverse, put_own, some_or_none}
+use Rattle.body_validator.proofs.Flat.{take_all-drop, known-reverse, put_own}
 
 pub height-frames_of : (fs : List Flat) (items : List Operand) → IsLaid fs items → height (frames_of fs items) ≡ length items
 height-frames_of [] items h = ap length (sym h)
@@ -48,9 +47,6 @@ discard_steps all f rest old new is some within own below =
     subst (λ (y : List Flat). applied Discards (frames_of y old) ≡ Some (frames_of y new)) (sym is)
     (ap (λ (y : Option Taken). (y >>= λ x. Some (put o x.left)) >>= λ o. Some (record (frame_of f old) { operands = o } ∷ frames_of rest (take f.base old))) x.1
     ∙ ap (λ (y : List Operand). Some (make y (take f.base old))) (x.2 ∙ sym own) ∙ ap (λ (z : List Operand). Some (make (own_of new f.base) z)) (sym below))
-
-abbrev stopped : Flat → Flat
-stopped f = record f { unknown = true; live = false }
 
 -- what is on top of some operands
 laid_on : (items : List Operand) (types : Types) (base : ℕ) → base ≡ length items → own_of (items ++ map Some types) base ≡ known (reverse types)
@@ -122,42 +118,14 @@ leave_steps all f rest old new is laid just may some e =
 pub part_own : (slice items : List Operand) (base : ℕ) → slice ≡ items → reverse (take (length slice - base) (drop base slice)) ≡ own_of items base
 part_own slice items base e = ap reverse (take_rest slice base) ∙ ap (λ (x : List Operand). own_of x base) e
 
-pub part_found : (unknown : Bool) (params : Types) (slice items : List Operand) (base : ℕ) (r b : Bool) → slice ≡ items
-    → r ≡ is_some (taken_all unknown params (reverse (take (length slice - base) (drop base slice)))) → r ≡ b → is_some (taken_all unknown params (own_of items base)) ≡ b
-part_found unknown params slice items base r b e f g =
-    sym (f ∙ ap (λ (x : List Operand). is_some (taken_all unknown params x)) (part_own slice items base e)) ∙ g
-
-pub part_just : (unknown : Bool) (params : Types) (slice items : List Operand) (base : ℕ) (r b : Bool) → slice ≡ items
-    → r ≡ none_left (taken_all unknown params (reverse (take (length slice - base) (drop base slice)))) → r ≡ b → none_left (taken_all unknown params (own_of items base)) ≡ b
-part_just unknown params slice items base r b e f g =
-    sym (f ∙ ap (λ (x : List Operand). none_left (taken_all unknown params x)) (part_own slice items base e)) ∙ g
-
 pub last_in : (slice items : List Flat) (f : Flat) → slice ≡ items → HasLast slice f → reverse items ≡ f ∷ reverse (take (length items - 1) items)
 last_in slice items f e h = subst (λ (x : List Flat). HasLast x f) e h
 
 pub base_within : (all : List Flat) (f : Flat) (rest : List Flat) (items : List Operand) → all ≡ f ∷ rest → IsLaid all items → f.base ≤ length items
 base_within all f rest items e h = (subst (λ (x : List Flat). IsLaid x items) e h).0
 
-not_taken : (unknown : Bool) (params : Types) (own : List Operand) → is_some (taken_all unknown params own) ≡ false → taken_all unknown params own ≡ None
-not_taken unknown params own e = some_or_none (taken_all unknown params own) e
-
-pub enter_refuses : (all : List Flat) (f : Flat) (rest : List Flat) (opening : Opening) (type : Signature) (params : Types) (old : List Operand) → all ≡ f ∷ rest
-    → is_some (taken_all f.unknown params (own_of old f.base)) ≡ false → enter opening type params (frames_of all old) ≡ None
-enter_refuses all f rest opening type params old is missed =
-    let o = (frame_of f old).operands in
-    ap (λ (y : List Flat). enter opening type params (frames_of y old)) is
-    ∙ ap (λ (y : Option (List Operand)). y >>= λ own. Some (record { opening = opening; type = type; operands = fresh type f.live } ∷ record (frame_of f old) { operands = put o own } ∷ frames_of rest (take f.base old)))
-    (not_taken f.unknown params (own_of old f.base) missed)
-
 pub pushed_first : (items old : List Flat) (g : Flat) → old ≡ items → reverse (old ++ g ∷ []) ≡ g ∷ reverse items
 pushed_first items old g e = reverse-append old (g ∷ []) ∙ ap (λ (x : List Flat). g ∷ reverse x) e
-
-pub some_below : (items : List Flat) → 0 < length items - 1 → reverse (take (length items - 1) items) ≡ [] → ⊥
-some_below items h e =
-    let none = ap length e in
-    let long = length-reverse (take (length items - 1) items) in
-    let part = length-take-le (length items - 1) items (omega arith) in
-    omega arith
 
 -- more on top of some frames changes nothing below
 pub laid_more : (fs : List Flat) (items more : List Operand) → (fs ≡ [] → ⊥) → IsLaid fs items → IsLaid fs (items ++ more)
@@ -178,9 +146,6 @@ two_taken : (o : Operands) (a : Operand) (own : List Operand) → (take_any o.un
     ≡ ((any_at o.unknown (a ∷ own) 1 >>= λ left. any_at o.unknown (a ∷ own) 2 >>= λ right. joined left right) >>= λ t. Some (put o (t ∷ drop 3 (a ∷ own))))
 two_taken o a own = by_parts o.unknown own
   where
-    last : (p : Option Operand) (rest : List Operand) → (p >>= λ t. Some (put o (t ∷ rest))) ≡ (p >>= λ t. Some (put o (t ∷ rest)))
-    last p rest = refl
-
     by_parts : (unknown : Bool) (own : List Operand) → (take_any unknown own >>= λ x. take_any unknown x.left >>= λ y. joined x.operand y.operand >>= λ t. Some (put o (t ∷ y.left)))
         ≡ ((any_at unknown (a ∷ own) 1 >>= λ left. any_at unknown (a ∷ own) 2 >>= λ right. joined left right) >>= λ t. Some (put o (t ∷ drop 3 (a ∷ own))))
     by_parts true [] = refl
@@ -200,13 +165,6 @@ select_applied o = by_parts o.own o.unknown o.live
         let o : Operands = record { own = a ∷ own; unknown = unknown; live = live } in
         same_test (is_of a I32) own a (λ own. take_any unknown own >>= λ x. take_any unknown x.left >>= λ y. joined x.operand y.operand >>= λ t. Some (put o (t ∷ y.left)))
         (any_at unknown (a ∷ own) 1 >>= λ left. any_at unknown (a ∷ own) 2 >>= λ right. joined left right) (λ t. Some (put o (t ∷ drop 3 (a ∷ own)))) (two_taken o a own)
-
-pub select_refuses : (all : List Flat) (f : Flat) (rest : List Flat) (old : List Operand) → all ≡ f ∷ rest → selected_of f.unknown (own_of old f.base) ≡ None → applied Selects (frames_of all old) ≡ None
-select_refuses all f rest old is missed =
-    let o = (frame_of f old).operands in
-    ap (λ (y : List Flat). applied Selects (frames_of y old)) is
-    ∙ ap (λ (y : Option Operands). y >>= λ o. Some (record (frame_of f old) { operands = o } ∷ frames_of rest (take f.base old)))
-    (select_applied o ∙ ap (λ (y : Option Operand). y >>= λ t. Some (put o (t ∷ drop 3 o.own))) missed)
 
 abbrev pub flat_label : Flat → Types
 flat_label f = label_of f.opening (signature f.params.now f.results.now)

@@ -1,5 +1,5 @@
 -- Locals that are declared before a body's first token.
-use Rattle.std.proofs.Common.{◌≡◌, ℕ, List, [], ◌∷◌, ◌++◌, length, Result, Ok, Err, OnOk, refl, sym, ap, ◌∙◌, append_assoc, append-nil, length-append, arith}
+use Rattle.std.proofs.Common.{◌≡◌, ℕ, List, [], ◌∷◌, ◌++◌, Result, Ok, Err, OnOk, refl, sym, ap, ◌∙◌, append_assoc, append-nil}
 use Rattle.std.specs.Prelude.{replicate}
 use Rattle.wasm_defs.specs.declared.types.FuncType.{FuncType}
 use Rattle.wasm_defs.specs.declared.types.ValType.{ValType}
@@ -8,7 +8,7 @@ use Rattle.wasm_defs.specs.Context.{declared_types}
 use Rattle.wasm_defs.specs.Typing.{Types, Context}
 use Rattle.body_validator.specs.declared.check.TokenStop.{TokenStop}
 use Rattle.body_validator.specs.Scopes.{with_locals}
-use Rattle.body_validator.specs.Checks.{Checked, before_code, declared_of, grouped, IsGrouped, IsReached}
+use Rattle.body_validator.specs.Checks.{Checked, before_code, grouped, IsGrouped}
 
 pub declared_types-append : (gs hs : List Group) → declared_types (gs ++ hs) ≡ declared_types gs ++ declared_types hs
 declared_types-append [] hs = refl
@@ -27,14 +27,6 @@ grouped-before_code c f gs count t =
     ap (λ (x : Types). f.params ++ x) (declared_types-push gs (record { count = count; ty = t }))
     ∙ sym (append_assoc f.params (declared_types gs) (replicate count t)) in
     ap (λ (x : Types). record (before_code c f gs) { context = with_locals (before_code c f gs).context x }) (sym more)
-
--- how many locals the groups declare
-pub declared_of-before_code : (c : Context) (f : FuncType) (gs : List Group) → declared_of (before_code c f gs) ≡ length (declared_types gs)
-declared_of-before_code c f gs = omega (arith, length-append f.params (declared_types gs))
-
--- before the first token no token was taken
-pub before_code-reached : (c : Context) (f : FuncType) (gs : List Group) → IsReached [] (before_code c f gs)
-before_code-reached c f gs = refl
 
 pub grouped-behind : (offset count : ℕ) (t : ValType) (r : Result (Unit {0}) TokenStop) (old new : Checked) → IsGrouped offset count t r old new
     → (c : Context) (f : FuncType) (gs : List Group) → old ≡ before_code c f gs → OnOk r (new ≡ before_code c f (gs ++ record { count = count; ty = t } ∷ []))

@@ -119,9 +119,6 @@ same_found (Some x) h = refl
 pub found_there : (un unknown : Bool) (p : Types) (v h : List Operand) → AreThere un v h unknown (length p) → is_some (take_all un p v) ≡ is_some (take_all unknown p (v ++ h))
 found_there un unknown p v h e = sym (ap is_some (taken_there un unknown p v h e) ∙ same_found (take_all un p v) h)
 
-pub refused_there : (un unknown : Bool) (p : Types) (v h : List Operand) → AreThere un v h unknown (length p) → take_all un p v ≡ None → take_all unknown p (v ++ h) ≡ None
-refused_there un unknown p v h e f = taken_there un unknown p v h e ∙ ap (λ (o : Option (List Operand)). o >>= λ left. Some (left ++ h)) f
-
 pub exchanged_more : (un unknown : Bool) (p g : Types) (v left h : List Operand) → IsBelow un h unknown → exchanged un p g v ≡ Some left → exchanged unknown p g (v ++ h) ≡ Some (left ++ h)
 exchanged_more un unknown p g v left h (inl e) f =
     ap (λ (x : List Operand). exchanged unknown p g (v ++ x)) e.0 ∙ ap (exchanged unknown p g) (append-nil v) ∙ ap (λ (b : Bool). exchanged b p g v) (sym e.1)
@@ -263,12 +260,6 @@ exchange_over base unknown p g o n s w e =
     ap (exchanged unknown p g) (own_seen base unknown o s)
     ∙ exchanged_more o.unknown unknown p g (own_of o.singles.items o.start) (own_of n.singles.items o.start) (hidden base o) (is_below base unknown o s) e
     ∙ ap (λ (x : List Operand). Some x) (sym (own_over base unknown o n s w))
-
-pub refused_seen : (base : ℕ) (unknown : Bool) (p : Types) (o : Operands) → IsSeen base unknown o → AreShown base (length p) o
-    → take_all o.unknown p (own_of o.singles.items o.start) ≡ None → take_all unknown p (own_of (flat o) base) ≡ None
-refused_seen base unknown p o s shown e =
-    ap (take_all unknown p) (own_seen base unknown o s)
-    ∙ refused_there o.unknown unknown p (own_of o.singles.items o.start) (hidden base o) (are_there base (length p) unknown o s shown) e
 
 pub found_seen : (base : ℕ) (unknown : Bool) (p : Types) (o : Operands) → IsSeen base unknown o → AreShown base (length p) o
     → is_some (take_all o.unknown p (own_of o.singles.items o.start)) ≡ is_some (take_all unknown p (own_of (flat o) base))
@@ -439,14 +430,6 @@ seen_same base unknown o n s e =
 
 pub flat_same : (o n : Operands) → AreSame o n → flat n ≡ flat o
 flat_same o n e = ap (λ (x : List Spread). laid_out (reverse x) n.singles.items) e.1 ∙ ap (laid_out (reverse (spreads o.lists))) e.0
-
-pub kept_same : (o n : Operands) → IsKept o → AreSame o n → IsKept n
-kept_same o n k e = record {
-  stacked = subst (λ (x : List Spread). AreStacked (reverse x) (length n.singles.items)) (sym e.1)
-      (subst (λ (x : List Operand). AreStacked (reverse (spreads o.lists)) (length x)) (sym e.0) k.stacked);
-  listed = e.2 ∙ k.listed ∙ ap (λ (x : List Spread). total (reverse x)) (sym e.1);
-  few = omega (arith, k.few, e.2);
-}
 
 pub shown_same : (base count : ℕ) (o n : Operands) → AreShown base count o → AreSame o n → AreShown base count n
 shown_same base count o n (inl h) e = inl (omega (arith, h, e.2, e.3))

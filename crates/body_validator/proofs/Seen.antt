@@ -13,7 +13,7 @@ use Rattle.body_validator.specs.Exchange.{Exchanges, TakesOne, TakesThree, Steps
 use Rattle.body_validator.specs.Kept.{flat, IsKept, IsSeen, IsSeenFrom, IsTried}
 use Rattle.body_validator.proofs.Laying.{base_seen}
 use Rattle.body_validator.proofs.Options.{some_inside}
-use Rattle.body_validator.proofs.Flat.{take_all-drop, some_or_none}
+use Rattle.body_validator.proofs.Flat.{take_all-drop}
 use Rattle.body_validator.proofs.Frames.{last_in, discard_steps, select_applied}
 
 pub seen_from : (all : List Flat) (f : Flat) (rest : List Flat) (o : Operands) → all ≡ f ∷ rest → IsSeen f.base f.unknown o → IsSeenFrom all o
@@ -111,14 +111,6 @@ stop_steps all after f rest p old new is later within found e =
     ∙ ap (λ (x : List Operand). Some (make x (take f.base old))) (sym none) ∙ ap (λ (z : List Operand). Some (make (own_of new f.base) z)) (sym same)
     ∙ ap (λ (y : List Flat). Some (frames_of y new)) (sym later)
 
-pub stop_refuses : (all : List Flat) (f : Flat) (rest : List Flat) (p : Types) (old : List Operand) → all ≡ f ∷ rest → is_some (take_all f.unknown p (own_of old f.base)) ≡ false
-    → applied (Stops p) (frames_of all old) ≡ None
-stop_refuses all f rest p old is missed =
-    let bare : Checked = record { own = []; unknown = true; live = false } in
-    ap (λ (y : List Flat). applied (Stops p) (frames_of y old)) is
-    ∙ ap (λ (x : Option (List Operand)). (x >>= λ own. Some bare) >>= λ y. Some (record (frame_of f old) { operands = y } ∷ frames_of rest (take f.base old)))
-    (some_or_none (take_all f.unknown p (own_of old f.base)) missed)
-
 -- the frames with other ones in place of the innermost
 pub laid_with : (all after : List Flat) (f g : Flat) (rest : List Flat) (old new : List Operand) → all ≡ f ∷ rest → after ≡ g ∷ rest → g.base ≡ f.base → IsLaid all old
     → take f.base new ≡ take f.base old → f.base ≤ length new → IsLaid after new
@@ -145,14 +137,6 @@ pub not_none : {A : Type 0} (xs : List A) (x : A) (rest : List A) → xs ≡ x �
 not_none xs x rest e f = let bad : x ∷ rest ≡ [] = sym e ∙ f in absurd (cc)
 
 -- ---- single operands of the innermost frame, whichever that is
-
-pub none_open : (all : List Flat) (p g : Types) (items : List Operand) → length all ≡ 0 → applied (Fixed p g) (frames_of all items) ≡ None
-none_open [] p g items e = refl
-none_open (f ∷ fs) p g items e = absurd (omega (arith, e))
-
-pub start_within : (all : List Flat) (o : Operands) → 0 < length all → IsSeenFrom all o → o.start ≤ length o.singles.items
-start_within [] o h s = absurd (omega arith)
-start_within (f ∷ fs) o h s = s.within
 
 abbrev pub IsTriedAt : Types → Types → Result (Unit {0}) Stop → Operands → Operands → Type 0
 IsTriedAt p g result o n = (base : ℕ) (unknown : Bool) → IsSeen base unknown o → IsTried base unknown p g result o n

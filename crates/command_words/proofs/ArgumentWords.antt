@@ -78,9 +78,6 @@ tested w text ds n writes only false is = λ k written fit.
     let it = only k written in
     absurd (false≢true (sym is ∙ (read_Decides w ds n).1 (it.0.1, (it.0.0, subst (FitsSigned w) it.1 fit))))
 
-no_digits : (c : ℕ) (cs : List ℕ) → digit_value c ≡ 99 → IsNumeral 10 (c ∷ cs) → ⊥
-no_digits c cs e h = omega (arith, e, h.1.0)
-
 pub reads_number : (w : Width) (text : List ℕ) → ReadsNumber w text (number_of w text)
 reads_number w [] = λ n written fit. go n written
   where

@@ -13,9 +13,9 @@ use Rattle.frame_layout.specs.Functions.{over, test_words}
 use Rattle.wasm_defs.specs.Places.{Place}
 use Rattle.control_emit.specs.Pending.{Pending, Shape, shape_of, shapes, Ends, label_of, named, place_or, meaning, patched, filled, test_patched, IsTestWithin, AreBelow, Within, jumping, end_at, TakesTest}
 use Rattle.control_emit.specs.Walks.{end_shape, IsLive}
-use Rattle.control_emit.specs.Emits.{FunctionBuilder, draft, IsHeld, meant, Emits, Opens, Turns, Closes}
+use Rattle.control_emit.specs.Emits.{FunctionBuilder, draft, meant, Emits, Opens, Turns, Closes}
 use Rattle.control_emit.proofs.Meanings.{meaning-front, meaning-jump, within-later, within-jump, patched-seam, length-filled, length-test}
-use Rattle.control_emit.proofs.Composing.{emits-as, emits-both, emits-nothing, longer, count-shapes}
+use Rattle.control_emit.proofs.Composing.{emits-as, emits-both, longer, count-shapes}
 
 -- words after the others
 pub emits-plain : (labels : List Pending) (old new : List ℕ) (ops : List Op) → Within (length old) labels → new ≡ old ++ map word_of ops → Emits (draft labels old) (draft labels new) (λ es. ops)
@@ -167,14 +167,6 @@ turns a b after new n test q x here takes is =
           ∙ x.words_are (record { other = n; end = end } ∷ es) e
           ∙ ap (λ (m : ℕ). meant a (record { other = m; end = end } ∷ es) ++ map word_of (over q (length a.words) end)) (here ∙ sym size);
     }
-
-pub passes-live : (a b : FunctionBuilder) (q : Place) → IsLive true q → Emits a b (λ es. far (distance (length a.words) (end_at 0 es))) → Emits a b (λ es. over q (length a.words) (end_at 0 es))
-passes-live a b None live x = absurd live
-passes-live a b (Some h) live x = x
-
-pub passes-dead : (a : FunctionBuilder) (q : Place) → IsLive false q → IsHeld a → Emits a a (λ es. over q (length a.words) (end_at 0 es))
-passes-dead a None live h = emits-nothing a h
-passes-dead a (Some k) live h = absurd live
 
 -- ---- an `end`
 

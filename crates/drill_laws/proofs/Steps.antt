@@ -90,9 +90,6 @@ module _ (i : Instance) (store : Store) (o : Origin) (g : ℕ) (few : g ≤ 2) (
   ends : (v k : ℕ) → run i (suc k) (alone store (frame outer [] (i32 v ∷ []) Nothing)) ≡ Returned store (i32 v ∷ [])
   ends v k = refl
 
-  Adds : ℕ → Type 0
-  Adds j = (f : Func) × (slice_get i.functions j ≡ Some (Declared f)) × IsFunction adder_type (adder_tree j) f
-
   all_calls : (first count v more : ℕ) → ((j : ℕ) → j < first + count → (f : Func) × (slice_get i.functions j ≡ Some (Declared f)) × IsFunction adder_type (adder_tree j) f) → first + count ≤ 50000 → v ≤ 50000 * first
       → run i (weight count more) (alone store (frame outer [] (i32 v ∷ []) (calls_from first count))) ≡ Returned store (i32 (v + sum (range_with_len first count)) ∷ [])
   all_calls first zero v more adders short low =

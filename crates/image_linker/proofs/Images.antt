@@ -4,7 +4,7 @@ use Rattle.std.specs.Prelude.{◌&&◌, IsSome, not, slice_index}
 use Rattle.std.proofs.lemmas.List.{map-append, take-map}
 use Rattle.rv_isa.specs.Words.{word_of}
 use Rattle.rv_isa.specs.declared.compiled.Code.{Code}
-use Rattle.wasm_defs.specs.Typing.{Context, function_type}
+use Rattle.wasm_defs.specs.Typing.{function_type}
 use Rattle.wasm_defs.specs.Context.{context_of, import_count, globals_of}
 use Rattle.wasm_defs.specs.Faults.{Module}
 use Rattle.wasm_defs.specs.Instances.{Written, is_linkable, exports_of, rows_of, pages_of, cap_of, values_of, start_of, elements_of, all_fit}
@@ -37,9 +37,6 @@ image_by version text globals table pages cap segments imports exports start unl
 
 module _ (m : Module) (codes : List Code) (below : AreBelow (length (context_of m.items).functions) (elements_of m.items))
     (typed : (f : ℕ) → f < length (context_of m.items).functions → IsSome (function_type (context_of m.items) f)) (coded : AreCodesOf m.items 0 m.bodies m.trees codes) where
-  abbrev c : Context
-  c = context_of m.items
-
   -- as many imports as imported functions
   counted : length (imports_of m.items) ≡ import_count m.items
   counted = imports_are_counted m.items

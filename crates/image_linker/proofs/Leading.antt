@@ -4,10 +4,6 @@ use Rattle.std.specs.Prelude.{slice_set, slice_index_or}
 use Rattle.std.proofs.lemmas.List.{append-nil, length-set}
 use Rattle.rv_isa.specs.declared.compiled.Relocation.{Relocation}
 use Rattle.rv_isa.specs.declared.compiled.Code.{Code}
-use Rattle.rv_isa.specs.declared.operations.Op.TheVariants.{Auipc, Jalr}
-use Rattle.rv_isa.specs.Runs.{hi, lo}
-use Rattle.rv_isa.specs.Words.{word_of}
-use Rattle.frame_layout.specs.Macros.{ra}
 use Rattle.frame_layout.specs.Functions.{with_distance, with_distances}
 use Rattle.image_linker.specs.ImageOf.{distances}
 use Rattle.image_linker.specs.Linking.{words_of, words_at, words_from}
@@ -18,13 +14,6 @@ beyond : (words : List ℕ) (place word : ℕ) → length words ≤ place → sl
 beyond [] place word h = refl
 beyond (x ∷ words) zero word h = absurd (omega arith)
 beyond (x ∷ words) (suc place) word h = ap (λ (l : List ℕ). x ∷ l) (beyond words place word (omega arith))
-
--- where its words aren't among these, they stay
-pub stays : (distance place : ℕ) (words : List ℕ) → length words ≤ place → words ≡ with_distance distance place words
-stays distance place words h =
-    let u = word_of (Auipc ra (hi distance)) in
-    let v = word_of (Jalr ra ra (lo distance)) in
-    sym (ap (λ (l : List ℕ). slice_set l (place + 1) v) (beyond words place u h) ∙ beyond words (place + 1) v (omega arith))
 
 -- ---- the calls of a code
 
@@ -70,7 +59,3 @@ words_suc places here (x ∷ xs) (suc i) c lt e =
     let k : here + length x.words + length (words_of (take i xs)) ≡ here + length (x.words ++ words_of (take i xs)) = omega (arith, length-append x.words (words_of (take i xs))) in
     ap (λ (l : List ℕ). words_at places here x ++ l) (words_suc places (here + length x.words) xs i c (omega arith) e ∙ ap (λ (n : ℕ). words_from places (here + length x.words) (take i xs) ++ words_at places n c) k)
     ∙ sym (append_assoc (words_at places here x) (words_from places (here + length x.words) (take i xs)) (words_at places (here + length (x.words ++ words_of (take i xs))) c))
-
-pub words_from-taken : (places : List ℕ) (here : ℕ) (codes : List Code) (i : ℕ) (c : Code) → i < length codes → c ≡ slice_index_or codes i c
-    → words_from places here (take (i + 1) codes) ≡ words_from places here (take i codes) ++ words_at places (here + length (words_of (take i codes))) c
-words_from-taken places here codes i c lt e = let k : i + 1 ≡ suc i = omega arith in rw k (words_suc places here codes i c lt e)

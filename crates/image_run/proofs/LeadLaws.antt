@@ -1,5 +1,5 @@
 -- Calls that lead a host, one after another.
-use Rattle.std.proofs.Common.{◌≡◌, List, [], ◌∷◌, ◌++◌, refl, subst}
+use Rattle.std.proofs.Common.{List, [], ◌∷◌, ◌++◌, subst}
 use Rattle.wasm_defs.specs.Host.{HostCall, Reply}
 use Rattle.image_run.specs.Hosts.{Leads}
 
@@ -8,8 +8,3 @@ leads_append H Calls a b c [] ds [] qs h g = subst (λ (x : H). Leads Calls x ds
 leads_append H Calls a b c [] ds (r ∷ rs) qs h g = absurd h
 leads_append H Calls a b c (x ∷ cs) ds [] qs h g = absurd h
 leads_append H Calls a b c (x ∷ cs) ds (r ∷ rs) qs h g = (h.0, h.1, leads_append H Calls h.0 b c cs ds rs qs h.2 g)
-
--- no calls lead nowhere, and have no replies
-pub leads_nowhere : (H : Type 0) (Calls : H → HostCall → Reply → H → Type 0) (a b : H) (rs : List Reply) → Leads Calls a [] rs b → rs ≡ []
-leads_nowhere H Calls a b [] h = refl
-leads_nowhere H Calls a b (r ∷ rs) h = absurd h

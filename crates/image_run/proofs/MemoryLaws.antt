@@ -35,21 +35,6 @@ all_fit-more first size (s ∷ later) more fit =
     let here : nat_le (s.place + length s.bytes) size ≡ true = le-leb (s.place + length s.bytes) size (omega (arith, leb-true (s.place + length s.bytes) first parts.0, more)) in
     rw (here, all_fit-more first size later more parts.1) refl
 
--- the next segment has room
-pub has_room : (size : ℕ) (all : List Segment) (bytes : List ℕ) (s : Segment) (rest : List Segment) → Placing size all bytes (s ∷ rest) → s.place + length s.bytes ≤ length bytes
-has_room size all bytes s rest h =
-    let parts = and_parts (nat_le (s.place + length s.bytes) size) (all_fit size (segments_of rest)) h.fit in
-    omega (arith, leb-true (s.place + length s.bytes) size parts.0, h.filled)
-
-pub placed : (size : ℕ) (all : List Segment) (bytes new : List ℕ) (s : Segment) (rest : List Segment) → Placing size all bytes (s ∷ rest) → new ≡ over bytes (s.place, s.bytes) → Placing size all new rest
-placed size all bytes new s rest h e =
-    let parts = and_parts (nat_le (s.place + length s.bytes) size) (all_fit size (segments_of rest)) h.fit in
-    record {
-      filled = ap length e ∙ length-over bytes s.bytes s.place (has_room size all bytes s rest h) ∙ h.filled;
-      fit = parts.1;
-      whole = ap (λ (l : List ℕ). all_over l (segments_of rest)) e ∙ h.whole;
-    }
-
 -- segments that fit in the first bytes leave those after them
 over_front : (front rest new : List ℕ) (at : ℕ) → at + length new ≤ length front → over (front ++ rest) (at, new) ≡ over front (at, new) ++ rest
 over_front front rest new at inside =

@@ -1,5 +1,5 @@
 -- Patches of a host, written to the beginning of a memory.
-use Rattle.std.proofs.Common.{◌≡◌, ℕ, ◌+◌, ◌≤◌, ◌<◌, Bool, true, false, ◌&&◌, List, ◌++◌, take, drop, length, None, Some, refl, sym, ap, ◌∙◌, subst, arith, append_assoc, length-append, length-take, length-drop}
+use Rattle.std.proofs.Common.{◌≡◌, ℕ, ◌+◌, ◌≤◌, ◌<◌, true, ◌&&◌, List, ◌++◌, take, drop, length, Some, refl, sym, ap, ◌∙◌, subst, arith, append_assoc, length-append, length-take, length-drop}
 use Rattle.std.specs.Prelude.{All, replicate, nat_le, option_map}
 use Rattle.rv_isa.specs.Steps.{put}
 use Rattle.wasm_defs.specs.Host.{are_bytes, patched, most_patched}
@@ -63,32 +63,6 @@ patch_goes p size old new fits whole ok bytes e =
     ∙ ap (λ (n : ℕ). with_bytes old Memory (put n p.place memory (patch_of p).bytes)) (sym count)
     ∙ ap (λ (l : List ℕ). with_bytes old Memory l) (sym same) in
     rw (short, are, long) is
-
--- a patch that has none
-pub patch_stops : (p : Patch) (size : ℕ) (old : Machine) → size ≤ length old.bytes.memory → (nat_le p.len most_patched && nat_le (p.place + p.len) size) ≡ false
-    → Patches false (patched (take size old.bytes.memory) (option_map patch_of (Some p))) old old
-patch_stops p size old fits bad =
-    let memory = old.bytes.memory in
-    let count = length_of_patch p in
-    let size_is : length (take size memory) ≡ size = omega (arith, length-take size memory) in
-    let outside : (nat_le (length (patch_of p).bytes) most_patched && nat_le (p.place + length (patch_of p).bytes) (length (take size memory))) ≡ false =
-    ap (λ (n : ℕ). nat_le n most_patched && nat_le (p.place + n) (length (take size memory))) count ∙ ap (λ (n : ℕ). nat_le p.len most_patched && nat_le (p.place + p.len) n) size_is ∙ bad in
-    by_tests (nat_le (length (patch_of p).bytes) most_patched) (are_bytes (patch_of p).bytes) (nat_le (p.place + length (patch_of p).bytes) (length (take size memory))) refl refl refl outside
-  where
-    by_tests : (s b t : Bool) → nat_le (length (patch_of p).bytes) most_patched ≡ s → are_bytes (patch_of p).bytes ≡ b → nat_le (p.place + length (patch_of p).bytes) (length (take size old.bytes.memory)) ≡ t → (s && t) ≡ false
-        → Patches false (patched (take size old.bytes.memory) (option_map patch_of (Some p))) old old
-    by_tests true true true e a f bad' = absurd (cc)
-    by_tests true true false e a f bad' = rw (e, a, f) refl
-    by_tests true false t e a f bad' = rw (e, a) refl
-    by_tests false b t e a f bad' = rw e refl
-
--- none at all
-pub no_patch : (size : ℕ) (old : Machine) → size ≤ length old.bytes.memory → Patches true (patched (take size old.bytes.memory) (option_map patch_of None)) old old
-no_patch size old fits =
-    let memory = old.bytes.memory in
-    let same : take size memory ++ drop (length (take size memory)) memory ≡ memory =
-    ap (λ (n : ℕ). take size memory ++ drop n memory) (omega (arith, length-take size memory)) ∙ take-append-drop size memory in
-    ap (λ (l : List ℕ). with_bytes old Memory l) (sym same)
 
 -- the first bytes, as many as are written
 pub front_written : (m now : Machine) (place count len : ℕ) (bytes : List ℕ) → count ≡ len → len ≤ length bytes → now ≡ with_bytes m Memory (put (length (take count bytes)) place m.bytes.memory (take count bytes))

@@ -1,5 +1,5 @@
 -- The signatures of an image's exports keep their bounds.
-use Rattle.std.proofs.Common.{◌≡◌, ℕ, zero, suc, ◌≤◌, ◌||◌, not, Bool, true, false, slice_get, List, [], ◌∷◌, ◌++◌, length, map, Option, None, Some, inl, inr, refl, sym, ap, subst, arith}
+use Rattle.std.proofs.Common.{◌≡◌, ℕ, zero, suc, ◌≤◌, ◌||◌, not, Bool, true, false, slice_get, List, [], ◌∷◌, ◌++◌, length, map, None, Some, inl, inr, refl, ap, subst, arith}
 use Rattle.std.specs.Str.{bytes_eq}
 use Rattle.std.proofs.lemmas.Bool.{and_parts, cases_Bool}
 use Rattle.std.proofs.lemmas.List.{length-map}
@@ -14,7 +14,6 @@ use Rattle.image_format.specs.declared.image.Import.{Import}
 use Rattle.image_format.specs.Bounds.{Each, ExportFits, IsSignature}
 use Rattle.image_run.specs.declared.checks.NotRunnable.TheVariants.{UnknownImport, WrongArguments}
 use Rattle.image_run.specs.Checks.{export_named, has_unknown_import, is_known, not_runnable, unfit}
-use Rattle.image_run.specs.States.{types_left}
 
 pub signature_of_export : (words : ℕ) (front es : List Export) (name : List ℕ) (e : Export) → Each (ExportFits words) front es → export_named name es ≡ Some e → IsSignature e.signature
 signature_of_export words front [] name e fits is = absurd cc
@@ -51,11 +50,6 @@ few_arguments i name values e bounds is found =
 
 pub few_results : (i : Image) (name : List ℕ) (e : Export) → IsImage i → export_named name i.exports ≡ Some e → length e.signature.results ≤ RESULTS
 few_results i name e bounds found = (signature_of_export (length i.text) [] i.exports name e bounds.exports.1 found).results
-
--- so are the types of what a run left, where it is of an export that was found
-pub few_left : (i : Image) (name : List ℕ) (o : Option Export) → IsImage i → o ≡ export_named name i.exports → length (types_left o) ≤ RESULTS
-few_left i name None bounds found = omega arith
-few_left i name (Some e) bounds found = few_results i name e bounds (sym found)
 
 -- where the checks find nothing, all imports are known, and the call can be made
 pub all_known : (i : Image) (name : List ℕ) (types : List ValType) → not_runnable i name types ≡ None → has_unknown_import i.imports ≡ false

@@ -2,5 +2,4 @@ pub mod SpaceLaws
 pub mod EntriesOfItems
 pub mod LikeLaws
 pub mod TypeSpaces
-pub mod Lookups
 pub mod SmallTypes

@@ -4,11 +4,10 @@ use Rattle.std.proofs.Common.{length-append}
 use Rattle.std.specs.Option.{option_or}
 use Rattle.wasm_defs.specs.declared.item.Item.{Item}
 use Rattle.wasm_defs.specs.declared.item.Item.TheVariants.{Signature, Imported, Function, Table, Memory, Global, Exported, Start, Element, Code, DataCount, Passive, Segment}
-use Rattle.wasm_defs.specs.Context.{context_of}
 use Rattle.wasm_defs.specs.Instances.{start_of, i32_value}
 use Rattle.wasm_defs.proofs.ItemLaws.{types_of-append, functions_of-append, import_count-append, declared_count-append, tables_of-append, memories_of-append, globals_of-append, data_count_of-append, option_or-none}
 use Rattle.index_spaces.specs.Entries.{imports_of, all_exports_of, element_rows_of, data_rows_of, initials_of}
-use Rattle.index_spaces.specs.Spaces.{context_in, spaces_of, with_item}
+use Rattle.index_spaces.specs.Spaces.{spaces_of, with_item}
 
 imports_of-append : (xs ys : List Item) → imports_of (xs ++ ys) ≡ imports_of xs ++ imports_of ys
 imports_of-append [] ys = refl
@@ -58,6 +57,3 @@ spaces_of-append items (Code count end) = simp appends
 spaces_of-append items (DataCount count) = simp appends
 spaces_of-append items (Passive form bytes) = simp appends
 spaces_of-append items (Segment form memory place bytes) = simp appends
-
-pub context_of-append : (items : List Item) (x : Item) → context_of (items ++ x ∷ []) ≡ context_in (with_item (spaces_of items) x)
-context_of-append items x = ap context_in (spaces_of-append items x)

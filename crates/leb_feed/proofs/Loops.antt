@@ -1,10 +1,6 @@
 -- Reading so many of a kind, one after the other, as a loop does.
-use Rattle.std.proofs.Common.{◌≡◌, ℕ, suc, ◌-◌, ◌+◌, ◌≤◌, ◌<◌, List, [], ◌∷◌, ◌++◌, refl, sym, ap, ◌∙◌, append_assoc, arith}
-use Rattle.std.proofs.lemmas.List.{append-nil}
+use Rattle.std.proofs.Common.{◌≡◌, ℕ, suc, ◌-◌, ◌+◌, ◌<◌, List, [], ◌∷◌, ◌++◌, refl, sym, ap, ◌∙◌, append_assoc, arith}
 use Rattle.wasm_defs.specs.Fields.{Cursor, Read, Got, Fault, Wants, Reader, then_go, ◌>>=◌, done, repeated}
-use Rattle.leb_feed.specs.declared.stop.Stop.{Stop}
-use Rattle.leb_feed.specs.declared.stop.Stop.TheVariants as stop
-use Rattle.leb_feed.specs.Reads.{Stops}
 
 -- what was read before, and what is still read
 abbrev pub with_front : {A : Type 0} → List A → Reader (List A) → Reader (List A)
@@ -22,55 +18,3 @@ module _ {A : Type 0} (p : Reader A) where
       let k : count - i ≡ suc (count - (i + 1)) = omega arith in
       let one : with_front front (repeated (count - i) p) c ≡ with_front (front ++ x ∷ []) (repeated (count - (i + 1)) p) d = rw (k, h) (regroup front x (repeated (count - (i + 1)) p d)) in
       sym one ∙ so_far
-
-  pub ends : (s : Stop) (front : List A) (count i : ℕ) (c : Cursor) (total : Read (List A)) → i < count → Stops s (p c)
-      → with_front front (repeated (count - i) p) c ≡ total → Stops s total
-  ends stop.NoMemory front count i c total lt h so_far = tt
-  ends (stop.Refused r) front count i c total lt h so_far =
-      let k : count - i ≡ suc (count - (i + 1)) = omega arith in
-      let one : with_front front (repeated (count - i) p) c ≡ Fault r = rw (k, h) refl in
-      sym so_far ∙ one
-  ends stop.Wants front count i c total lt h so_far =
-      let k : count - i ≡ suc (count - (i + 1)) = omega arith in
-      let one : with_front front (repeated (count - i) p) c ≡ Wants = rw (k, h) refl in
-      sym so_far ∙ one
-
-  pub is_done : (front : List A) (count i : ℕ) (c : Cursor) (total : Read (List A)) → count ≤ i → with_front front (repeated (count - i) p) c ≡ total → total ≡ Got front c
-  is_done front count i c total le so_far =
-      let k : count - i ≡ 0 = omega arith in
-      let one : with_front front (repeated (count - i) p) c ≡ Got front c = rw k (ap (λ (l : List A). Got l c) (append-nil front)) in
-      sym so_far ∙ one
-
--- ---- passing over so many
-
-abbrev pub passing : {A : Type 0} → ℕ → Reader A → Reader (Unit {0})
-passing n p = repeated n p >>= λ all. done tt
-
-module _ {A : Type 0} (p : Reader A) where
-  shorter : (x : A) (read : Read (List A)) → then_go (then_go read (λ xs. done (x ∷ xs))) (λ all. done {A = Unit {0}} tt) ≡ then_go read (λ all. done {A = Unit {0}} tt)
-  shorter x (Got xs d) = refl
-  shorter x (Fault r) = refl
-  shorter x Wants = refl
-
-  pub passes_on : (count i : ℕ) (c d : Cursor) (x : A) (total : Read (Unit {0})) → i < count → p c ≡ Got x d → passing (count - i) p c ≡ total → passing (count - (i + 1)) p d ≡ total
-  passes_on count i c d x total lt h so_far =
-      let k : count - i ≡ suc (count - (i + 1)) = omega arith in
-      let one : passing (count - i) p c ≡ passing (count - (i + 1)) p d = rw (k, h) (shorter x (repeated (count - (i + 1)) p d)) in
-      sym one ∙ so_far
-
-  pub pass_ends : (s : Stop) (count i : ℕ) (c : Cursor) (total : Read (Unit {0})) → i < count → Stops s (p c) → passing (count - i) p c ≡ total → Stops s total
-  pass_ends stop.NoMemory count i c total lt h so_far = tt
-  pass_ends (stop.Refused r) count i c total lt h so_far =
-      let k : count - i ≡ suc (count - (i + 1)) = omega arith in
-      let one : passing (count - i) p c ≡ Fault r = rw (k, h) refl in
-      sym so_far ∙ one
-  pass_ends stop.Wants count i c total lt h so_far =
-      let k : count - i ≡ suc (count - (i + 1)) = omega arith in
-      let one : passing (count - i) p c ≡ Wants = rw (k, h) refl in
-      sym so_far ∙ one
-
-  pub all_passed : (count i : ℕ) (c : Cursor) (total : Read (Unit {0})) → count ≤ i → passing (count - i) p c ≡ total → total ≡ Got tt c
-  all_passed count i c total le so_far =
-      let k : count - i ≡ 0 = omega arith in
-      let one : passing (count - i) p c ≡ Got tt c = rw k refl in
-      sym so_far ∙ one

@@ -3,7 +3,7 @@ use Rattle.std.proofs.Common.{◌≡◌, ℕ, ◌+◌, ◌-◌, ◌^◌, ◌<◌
 use Rattle.std.proofs.Common.{to_z, of_z}
 use mir.Syntax.{w128}
 use Rattle.std.proofs.lemmas.Int.{ints}
-use Rattle.std.specs.Prelude.{zero, suc, negsuc, true, false, Bool, ◌↔◌, ◌*ℤ◌, neg_ℤ, ◌≤ℤ◌, ◌<ℤ◌}
+use Rattle.std.specs.Prelude.{zero, suc, negsuc, true, false, Bool, ◌↔◌, ◌*ℤ◌}
 use Rattle.std.proofs.Common.{ltb, inl, inr, ◌*◌, ◌%◌}
 use Rattle.std.proofs.lemmas.Bool.{cases_Bool, lt-ltb, le-ltb}
 use Rattle.std.proofs.lemmas.Nat.{pow-add, shl_whole}
@@ -16,7 +16,7 @@ use Rattle.std.proofs.lemmas.List.{drop_more, take-append-drop, length-take, app
 use Rattle.leb_feed.specs.declared.number.ReadAt.{ReadAt}
 use Rattle.leb_feed.specs.declared.number.ReadAt.TheVariants as answers
 use Rattle.leb_feed.specs.Answers.{answer, answer_behind}
-use Rattle.wasm_defs.specs.Numbers.{Reading, Number, CutOff, Bad, Means, BeginsWithNumber, IsCutOff, IsNoNumber, IsSmall, number_at, last_byte, after_byte}
+use Rattle.wasm_defs.specs.Numbers.{Reading, Number, CutOff, Bad, Means, BeginsWithNumber, IsCutOff, IsNoNumber, number_at, last_byte, after_byte}
 use Rattle.wasm_defs.proofs.NumberLaws.{AreBytes, reading_means, bytes_from, prefix_free}
 
 -- the number that was answered was read
@@ -29,11 +29,6 @@ pub was_read : (place : ℕ) (r : Reading) (n : ℤ) (next : ℕ) → answers.Nu
 was_read place (Number m len) n next e = record { len = len; read = cc; ends = cc }
 was_read place CutOff n next e = absurd cc
 was_read place Bad n next e = absurd cc
-
-pub answered_small : (place bits : ℕ) (r : Reading) (n : ℤ) (next : ℕ) → answers.Number n next ≡ answer place r → IsSmall bits r → (neg_ℤ (pos (2 ^ bits)) ≤ℤ n) × (n <ℤ pos (2 ^ bits))
-answered_small place bits (Number m len) n next e s = let h : n ≡ m = cc in rw h s
-answered_small place bits CutOff n next e s = absurd cc
-answered_small place bits Bad n next e s = absurd cc
 
 -- ---- one byte alone
 

@@ -1,6 +1,6 @@
 -- How the bytes of one module go on.
-use Rattle.std.proofs.Common.{◌≡◌, inl, inr, ◌≤◌, ◌<◌, ◌+◌, ◌-◌, ℕ, zero, suc, ◌∷◌, true, false, List, [], ◌++◌, length, take, drop, All, Option, None, Result, Ok, Err, refl, sym, ap, ◌∙◌, subst, arith, append_assoc, length-append, length-take, length-drop}
-use Rattle.std.specs.Prelude.{Bool, is_some}
+use Rattle.std.proofs.Common.{◌≡◌, inl, inr, ◌≤◌, ◌<◌, ◌+◌, ◌-◌, ℕ, zero, suc, ◌∷◌, List, [], ◌++◌, length, take, drop, All, Option, None, Result, Ok, Err, refl, sym, ap, ◌∙◌, subst, arith, append_assoc, length-append, length-take, length-drop}
+use Rattle.std.specs.Prelude.{Bool}
 use Rattle.std.proofs.lemmas.Bool.{cases_lt}
 use Rattle.std.proofs.lemmas.List.{append-nil, take-append-drop, take_all, drop_all}
 use Rattle.std.proofs.lemmas.List.Elements.{All-append}
@@ -8,17 +8,14 @@ use Rattle.wasm_defs.specs.declared.fault.Refusal.{Refusal}
 use Rattle.wasm_defs.specs.declared.front_stop.FrontStop.{FrontStop}
 use Rattle.wasm_defs.specs.declared.front_stop.FrontStop.TheVariants.{Refused, NoMemory}
 use Rattle.wasm_defs.specs.Faults.{Rejected}
-use Rattle.std.specs.declared.alloc.Global.{Global}
 use Rattle.body_cutter.specs.Cuttings.{Cutting}
 use Rattle.image_linker.specs.Judging.{IsVerdictOf}
 use Rattle.body_compiler.specs.declared.batch.row.Row.{Row}
 use Rattle.result_cells.specs.Rooms.{Store}
 use Rattle.module_stream.specs.Limits.{max_read}
 use Rattle.module_stream.specs.declared.compilation.Compilation.{Compilation}
-use Rattle.module_stream.specs.declared.built.Built.{Built}
-use Rattle.module_stream.specs.declared.built.Checked.{Checked}
-use Rattle.module_stream.specs.Done.{IsDone, IsBuilt, IsValid, Decides}
-use Rattle.module_stream.specs.Streaming.{IsGoing, IsUnread, MayEnd, Advances, GoesOn, with_cutter}
+use Rattle.module_stream.specs.Done.{IsDone, Decides}
+use Rattle.module_stream.specs.Streaming.{IsGoing, MayEnd, Advances, GoesOn, with_cutter}
 use Rattle.many_streams.specs.declared.intake.Intake.{Intake}
 use Rattle.many_streams.specs.Intakes.{Goes}
 use Rattle.module_stream.proofs.Staying.{no_module, verdict_stays}
@@ -59,11 +56,6 @@ decided_early came r few v rest =
           subst (λ (x : List ℕ). IsVerdictOf x (Rejected r)) whole (verdict_stays read (drop n rest) full (Rejected r) (v (take n rest) (omega (arith, length-append came (take n rest), length-take n rest))))
       | inr fits ↦ v rest (omega (arith, length-append came rest))
     ]
-
--- ---- before the first byte
-
-pub fed_none : (alloc : Global) (s : Compilation) (p : Part) → p ≡ record { alloc = alloc; compilation = s; fed = 0; intake = None } → IsUnread s → IsFed [] p
-fed_none alloc s p same unread = subst (IsFed []) (sym same) (record { count = refl; bytes = λ k d in'. absurd (omega arith); going = λ more few. unread more few })
 
 -- ---- bytes are taken
 
@@ -220,13 +212,6 @@ judged_already keeps came m r is i = subst (IsEnded keeps came) (sym is) (refuse
 pub open_so : (keeps : Bool) (came : List ℕ) (m : Member) (p : Part) → m ≡ member.Open p → IsMember keeps came m → IsFed came p × KeepsCodes keeps p.compilation
 open_so keeps came m p is i = subst (IsMember keeps came) is i
 
--- what a module that is done comes to
-pub image_judged : (keeps : Bool) (came : List ℕ) (s : Compilation) (built : Built) → is_some s.codes.kept ≡ true → KeepsCodes keeps s → IsBuilt came built → IsJudged keeps came (member.Image built)
-image_judged keeps came s built kept same is = (sym same ∙ kept, is)
-
-pub valid_judged : (keeps : Bool) (came : List ℕ) (s : Compilation) (c : Checked) → is_some s.codes.kept ≡ false → KeepsCodes keeps s → IsValid came c → IsJudged keeps came (member.Valid c)
-valid_judged keeps came s c none same is = (sym same ∙ none, is)
-
 pub fed_of : (keeps : Bool) (came : List ℕ) (m : Member) (p : Part) → m ≡ member.Open p → IsMember keeps came m → IsFed came p
 fed_of keeps came m p is i = (subst (IsMember keeps came) is i).0
 
@@ -239,13 +224,6 @@ ended_judged keeps came (member.Refused r) j = j
 
 pub ended_open : (keeps : Bool) (came : List ℕ) (m : Member) (p : Part) → m ≡ member.Open p → IsEnded keeps came m → IsFed came p × KeepsCodes keeps p.compilation
 ended_open keeps came m p is i = subst (IsEnded keeps came) is i
-
--- one that isn't open is judged
-pub judged_closed : (keeps : Bool) (came : List ℕ) (m : Member) → ((p : Part) → m ≡ member.Open p → ⊥) → IsEnded keeps came m → IsJudged keeps came m
-judged_closed keeps came (member.Open p) closed i = absurd (closed p refl)
-judged_closed keeps came (member.Image built) closed i = i
-judged_closed keeps came (member.Valid c) closed i = i
-judged_closed keeps came (member.Refused r) closed i = i
 
 pub no_rows : (cells : Store) (m : Member) (rows : List (Option Row)) → rows ≡ [] → AreRowsOf cells rows m
 no_rows cells m rows none = subst (λ (l : List (Option Row)). AreRowsOf cells l m) (sym none) (of m)

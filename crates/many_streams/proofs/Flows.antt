@@ -1,17 +1,16 @@
 -- What came of modules whose compilations are lent.
 use Rattle.std.proofs.Common.{◌≡◌, ◌⊎◌, inl, inr, ◌<◌, ◌≤◌, ◌+◌, ℕ, zero, suc, Bool, List, [], ◌∷◌, ◌++◌, length, Option, Some, None, Result, Ok, Err, slice_get, refl, sym, ap, ◌∙◌, subst, arith, length-append}
-use Rattle.std.specs.Prelude.{is_some, OnOk}
+use Rattle.std.specs.Prelude.{OnOk}
 use Rattle.std.proofs.Math.ListN.{set, length-set}
 use Rattle.std.proofs.lemmas.Option.{slice_get_within}
 use Rattle.result_cells.specs.Rooms.{Store}
 use Rattle.body_compiler.specs.declared.batch.row.Row.{Row}
 use Rattle.many_streams.specs.declared.flow.Flow.{Flow}
-use Rattle.many_streams.specs.declared.intake.Intake.{Intake}
 use Rattle.many_streams.specs.declared.member.Part.{Part}
 use Rattle.many_streams.specs.declared.member.Member.{Member}
 use Rattle.many_streams.specs.declared.member.Member.TheVariants as member
 use Rattle.many_streams.specs.declared.working.Made.{Made}
-use Rattle.many_streams.specs.Flows.{member_with, members_with, IsWaiting, IsLent, AreLent}
+use Rattle.many_streams.specs.Flows.{member_with, members_with, IsLent, AreLent}
 use Rattle.many_streams.specs.Members.{IsMember, IsEnded, AreRowsOf}
 use Rattle.many_streams.specs.Workers.{AreMade}
 use Rattle.many_streams.proofs.Feeding.{refused_more, refused_whole}
@@ -131,15 +130,6 @@ put_all old now os left none h = of left none h.whole
     of (x ∷ l) none same = absurd (omega arith)
 
 -- ---- a module
-
--- where it is open, its bodies are kept
-pub waits_some : (m : Member) (p : Part) (i : Intake) → m ≡ member.Open p → p.intake ≡ Some i → IsWaiting m
-waits_some m p i is some q is' =
-    let e : p ≡ q = cc in
-    ap (λ (x : Part). is_some x.intake) (sym e) ∙ ap (λ (x : Option Intake). is_some x) some
-
-pub waits_closed : (m : Member) → ((p : Part) → m ≡ member.Open p → ⊥) → IsWaiting m
-waits_closed m closed p is = absurd (closed p is)
 
 -- its bytes have ended: where it is open it is judged later
 pub member_ends : (keeps : Bool) (came : List ℕ) (m : Member) → IsMember keeps came m → IsEnded keeps came m

@@ -28,23 +28,6 @@ bad_count bytes of f n c fits bad more =
       are = c.are ∙ sym (append-nil (u32 n));
     }))
 
-pub counted : (bytes : List ℕ) (of : ℕ → List ℕ) (f : Progress) (n : ℕ) → HasCount bytes of f n → 0 < n → n ≤ 64
-    → IsReading bytes of (record f { modules = n; next = next.Index })
-counted bytes of f n c some few = record {
-  few = c.between.few;
-  at = c.between.at;
-  stands = (
-    [],
-    record {
-      formed = record { some = some; few = few; chunks = tt };
-      known = (c.flags.0, λ i in'. c.flags.1 i (omega arith));
-      owes = (0, (some, refl));
-    },
-    c.are ∙ (sym (append-nil (u32 n)) ∙ (sym (append-nil (u32 n ++ [])) ∙ ap (λ (l : List ℕ). (u32 n ++ []) ++ l) (sym c.between.number))),
-    c.each,
-  );
-}
-
 -- ---- the number of a chunk's module
 
 pub bad_index : (bytes : List ℕ) (of : ℕ → List ℕ) (f : Progress) (n at : ℕ) → HasIndex bytes of f n → n < 2 ^ 32
@@ -72,20 +55,6 @@ bad_index bytes of f n at c fits bad place more = error_refused bytes at more c.
         let e : length bytes ≡ length (encoding f.modules c.chunks ++ u32 n) = ap length c.are in
         let long : length (u32 n) ≡ 4 = refl in
         let sum = length-append (encoding f.modules c.chunks) (u32 n) in omega arith
-
-pub indexed : (bytes : List ℕ) (of : ℕ → List ℕ) (f : Progress) (n : ℕ) → HasIndex bytes of f n → n < f.modules → get_or f.ended n false ≡ false
-    → IsReading bytes of (record f { next = next.Length n })
-indexed bytes of f n c in' flag = record {
-  few = c.between.few;
-  at = c.between.at;
-  stands = (
-    c.chunks,
-    c.among,
-    (in', sym (c.among.known.1 n in') ∙ flag),
-    c.are ∙ ap (λ (l : List ℕ). encoding f.modules c.chunks ++ l) (sym (append-nil (u32 n)) ∙ ap (λ (l : List ℕ). u32 n ++ l) (sym c.between.number)),
-    c.each,
-  );
-}
 
 -- ---- the length of a chunk
 
@@ -177,33 +146,6 @@ bytes_flag bytes of f m left at r = on (subst (λ (p : Next). StandsAt p f bytes
     on (cs, came, among, going, none, owed, fits, are, each) = among.known.1 m going.0 ∙ going.1
 
 -- ---- a byte of a number
-
-pub number_on : (bytes : List ℕ) (of : ℕ → List ℕ) (f f' : Progress) (b : ℕ) → IsNumberNext f.next → IsReading bytes of f → f.at < MAX_INPUT
-    → f' ≡ record f { at = f.at + 1; number = f.number ++ b ∷ [] }
-    → IsReading (bytes ++ b ∷ []) of f' × (f'.modules ≡ f.modules)
-number_on bytes of f f' b is r room same = subst (λ (g : Progress). IsReading (bytes ++ b ∷ []) of g × (g.modules ≡ f.modules)) (sym same) (
-  record {
-    few = let l = length-append bytes (b ∷ []) in let at' = r.at in omega arith;
-    at = let l = length-append bytes (b ∷ []) in let at' = r.at in omega arith;
-    stands = on f.next is r.stands;
-  },
-  refl,
-)
-  where
-    on : (p : Next) → IsNumberNext p → StandsAt p f bytes of → StandsAt p (record f { at = f.at + 1; number = f.number ++ b ∷ [] }) (bytes ++ b ∷ []) of
-    on next.Count u (are, known, flags, each, none) = (ap (λ (l : List ℕ). l ++ b ∷ []) are, known, flags, each, none)
-    on next.Index u (cs, among, are, each) = (cs, among, ap (λ (l : List ℕ). l ++ b ∷ []) are ∙ append_assoc (encoding f.modules cs) f.number (b ∷ []), each)
-    on (next.Length m) u (cs, among, going, are, each) = (
-      cs,
-      among,
-      going,
-      ap (λ (l : List ℕ). l ++ b ∷ []) are
-          ∙ (append_assoc (encoding f.modules cs) (u32 m ++ f.number) (b ∷ [])
-          ∙ ap (λ (l : List ℕ). encoding f.modules cs ++ l) (append_assoc (u32 m) f.number (b ∷ []))),
-      each,
-    )
-    on (next.Bytes m left) never stands = absurd never
-    on next.Nothing never stands = absurd never
 
 whole_now : (bytes : List ℕ) (of : ℕ → List ℕ) (f : Progress) (b : ℕ) → IsReading bytes of f → f.at < MAX_INPUT
     → IsBetween (bytes ++ b ∷ []) (record f { at = f.at + 1; number = [] })

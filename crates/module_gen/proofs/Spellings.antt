@@ -53,6 +53,3 @@ pub counted : (end size rest whole : ℕ) → rest < end → IsCounted end size 
 counted end size rest whole below (k, narrow, few, is) =
     let long : length (spelling end (suc k) rest) ≡ 1 = ap length (last end k rest below) in
     (omega (arith, long, is), omega (arith, few))
-
-pub room_left : (end size rest whole : ℕ) → IsCounted end size rest whole → size ≤ 5
-room_left end size rest whole (k, narrow, few, is) = omega (arith, few)

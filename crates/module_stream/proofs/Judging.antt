@@ -31,9 +31,6 @@ use Rattle.wasm_laws.proofs.PartOrder.{use_fault_stands, use_once, fault_after}
 
 -- ---- how far validation came
 
-pub begins : (bytes : List ℕ) (left : Run) (spaces : Spaces) → left ≡ module_read bytes → spaces ≡ spaces_of [] → IsJudged bytes left spaces 0
-begins bytes left spaces is none = rw (is, none) (record { front = []; parts = refl; ending = refl; spaces_are = refl; count = refl; trees = []; valid = tt })
-
 pub regrouped : (bytes : List ℕ) (front rest : List Part) (x : Part) → (module_read bytes).parts ≡ front ++ x ∷ rest → (module_read bytes).parts ≡ (front ++ x ∷ []) ++ rest
 regrouped bytes front rest x e = e ∙ sym (append_assoc front (x ∷ []) rest)
 
@@ -131,9 +128,6 @@ is_refused bytes left spaces bodies total r j len none fault =
 pub body_refused : (bytes : List ℕ) (left : Run) (spaces : Spaces) (bodies : ℕ) (b : Body) (r : Refusal) → IsJudged bytes (after_part (Coded b) left) spaces bodies → IsCodeFault (body_of_spaces spaces bodies b) (read_of b).code r → IsVerdictBesideText bytes (Rejected r)
 body_refused bytes left spaces bodies b r j f = (inr inside, λ s g. no_less s g)
   where
-    next : Run
-    next = after_part (Coded b) left
-
     here : IsCodeFault (context_at (items_of j.front) (length (bodies_of j.front)) b) (read_of b).code r
     here = rw (context_is bytes (after_part (Coded b) left) spaces bodies b j) at f
 

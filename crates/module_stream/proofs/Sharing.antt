@@ -125,10 +125,6 @@ pub not_kept : {X : Type 0} (o : Option X) → is_some o ≡ false → o ≡ Non
 not_kept None e = refl
 not_kept (Some x) e = absurd (true≢false e)
 
--- both lists go on with the same
-pub same_steps : {X : Type 0} (xs ys xs' ys' : List X) (x y : X) → xs ≡ x ∷ xs' → ys ≡ y ∷ ys' → y ≡ x → ys' ≡ xs' → ys ≡ xs
-same_steps xs ys xs' ys' x y e f same rest = f ∙ (λ i. same i ∷ rest i) ∙ sym e
-
 -- the rows of the workers, and those of the thread that settled
 pub rows_grown : (P : Row → Type 0) (rows more new : List Row) → new ≡ rows ++ more → All P rows → All P more → All P new
 rows_grown P rows more new e a b = subst (All P) (sym e) (All-append P rows more a b)

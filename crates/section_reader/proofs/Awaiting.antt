@@ -86,9 +86,6 @@ module _ (P : List ℕ → Type 0) where
       (rw (le-ltb 2 form.1 low, ne_eqb form.1 1 other) (then_awaits (memory_of seen form) _ d e memory (memory_of_steady (form.0 ∷ []) seen form here_in).by second
       (then_awaits (constant I32) _ e f place (constant_steady [] I32).by third (on_awaits counted_bytes _ f h))))
 
-pub never : {A : Type 0} (p : Reader A) (c : Cursor) → Awaits p c wait.Nothing
-never p c = λ more passes. absurd passes
-
 -- ---- names
 
 custom_awaits : (c : Cursor) (w : Wait) → Awaits name c w → Awaits custom_name c w

@@ -135,14 +135,6 @@ abbrev pub read_of : (count place : ℕ) → Functions
 read_of count place = record { count = count; bytes = place }
 
 module _ (types : ℕ) (bytes indices : List ℕ) where
-  pub none_read : AreRead types bytes (read_of 0 0) indices
-  none_read = record {
-    room = omega arith;
-    within = omega arith;
-    each = omega arith;
-    from = λ c e. ap (λ (n : ℕ). Got [] (record { at = n; rest = c.rest; end = c.end })) (omega arith);
-  }
-
   pub one_more : (count place i next : ℕ) → count < length indices → IsIndexAt types bytes place i next → AreRead types bytes (read_of count place) indices → AreRead types bytes (read_of (count + 1) next) (set indices count i)
   one_more count place i next there at r = record {
     room = omega (arith, length-set indices count i);

@@ -1,5 +1,5 @@
 -- What a push reader has left after it took functions many at once.
-use Rattle.std.proofs.Common.{◌≡◌, ℕ, ◌+◌, ◌-◌, ◌≤◌, List, [], ◌++◌, length, take, drop, map, refl, sym, ap, ◌∙◌, arith, length-take}
+use Rattle.std.proofs.Common.{◌≡◌, ℕ, ◌+◌, ◌-◌, ◌≤◌, List, ◌++◌, length, take, drop, map, refl, sym, ap, ◌∙◌, arith, length-take}
 use Rattle.wasm_defs.specs.Fields.{Cursor, past}
 use Rattle.wasm_defs.specs.Outside.{row, entries, sections}
 use Rattle.wasm_laws.specs.Steadiness.{with_more}
@@ -14,22 +14,9 @@ use Rattle.section_reader.specs.Functions.{AreRead, declares, function_part, IsA
 use Rattle.section_reader.specs.Onward.{onward, after_parts}
 use Rattle.section_reader.specs.Outline.{outline_sections}
 use Rattle.section_reader.specs.Stages.{proceed, is_at_bodies}
-use Rattle.section_reader.proofs.Declaring.{read_of, functions_are}
+use Rattle.section_reader.proofs.Declaring.{functions_are}
 use Rattle.section_reader.proofs.FrontTelling.{onward_joined}
 use Rattle.section_reader.proofs.Reaching.{left_joined}
-
-pub none_taken : (f : Front) (bytes types : List ℕ) → TakesFunctions f bytes (read_of 0 0) types f
-none_taken f bytes types = record {
-  room = omega arith;
-  some = omega arith;
-  indices = [];
-  are = refl;
-  same = λ more. refl;
-  onward = λ more. refl;
-  total_is = omega arith;
-  waiting = refl;
-  apart = λ h. h;
-}
 
 module _ (old : Front) (bytes there : List ℕ) (owed : ℕ) (read : Functions) (at : IsAtFunctions old owed) (few : read.count ≤ owed) (is : take (old.end - old.at) bytes ≡ there) where
   abbrev begun : Cursor

@@ -54,15 +54,6 @@ pub record StillGoing (old : Steps) (a : Cursor) (now : Steps) (c : Cursor) : Ty
   pub same : IsSameButLast old.seen now.seen
   pub tells : IsOrdered old.stage old.seen → GoesOnward old a None now c
 
-pub begins : (old : Steps) (a : Cursor) → IsSound old.seen a → StillGoing old a old a
-begins old a sound = record {
-  leads = λ more. refl;
-  sound = sound;
-  passed = record { taken = []; parts = refl; at = omega arith };
-  same = refl;
-  tells = λ o. record { tells = λ _. record { told = []; sections = tt; run = λ more. refl }; apart = λ apart _. apart; ordered = o; behind = tt };
-}
-
 pub goes_on : (old mid new : Steps) (a c d : Cursor) → StillGoing old a mid c → Goes mid c None new d → StillGoing old a new d
 goes_on old mid new a c d s g = record {
   leads = leads_then old.stage mid.stage new.stage old.seen mid.seen new.seen a c d None s.leads g.leads;

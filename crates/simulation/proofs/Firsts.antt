@@ -7,7 +7,7 @@ use Rattle.frame_layout.specs.Laws.{slot_at}
 use Rattle.wasm_defs.specs.Typing.{Types}
 use Rattle.wasm_defs.specs.declared.types.FuncType.{FuncType}
 use Rattle.wasm_defs.specs.Values.{types_of_values}
-use Rattle.wasm_defs.specs.Configurations.{Func, Function, Imported, Declared, type_of, Instance, Store, Invocation, Step, place_of_import}
+use Rattle.wasm_defs.specs.Configurations.{Func, Function, Imported, Declared, type_of, Instance, Store, Invocation, place_of_import}
 use Rattle.wasm_defs.specs.Reductions.{enter, ask, start_function}
 use Rattle.frame_layout.specs.Traps.{room_trap}
 use Rattle.frame_layout.specs.Templates.{import_stub, exit_stub}
@@ -30,9 +30,6 @@ module _ (im : Image) (near : length (code_of_image im) ≤ 2 ^ 26) (inst : Inst
     (store : Store) (next : Invocation) (later : List Invocation) (r : Running) (x : Enters im inst places store next later r) where
   abbrev ty : FuncType
   ty = type_of x.function
-
-  abbrev started : Option Function → Step
-  started o = start_function store o next.arguments [] later
 
   abbrev Comes : Option Function → Type 0
   Comes o = Leads im inst places (type_of x.function).results 128 0 r (start_function store o next.arguments [] later)

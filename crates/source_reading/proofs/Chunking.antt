@@ -1,5 +1,5 @@
 -- The bytes of a buffer that are still to be taken.
-use Rattle.std.proofs.Common.{◌≡◌, ◌≤◌, ◌+◌, ◌-◌, ℕ, List, [], ◌∷◌, length, take, drop, refl, ap, ◌∙◌, arith, drop-drop, length-drop, length-take}
+use Rattle.std.proofs.Common.{◌≡◌, ◌≤◌, ◌+◌, ◌-◌, ℕ, List, [], length, take, drop, ap, ◌∙◌, arith, drop-drop, length-drop, length-take}
 use Rattle.std.proofs.lemmas.List.{drop-take, drop_all}
 use Rattle.source_reading.specs.Chunks.{Chunked}
 
@@ -14,11 +14,6 @@ skipped xs from len taken few =
 -- so many are pending
 pub pending_count : (xs : List ℕ) (from len : ℕ) → from + len ≤ length xs → length (take len (drop from xs)) ≡ len
 pending_count xs from len fits = omega (arith, length-take len (drop from xs), length-drop from xs)
-
--- none is
-pub none_pending : (xs : List ℕ) → take 0 xs ≡ []
-none_pending [] = refl
-none_pending (x ∷ xs) = refl
 
 -- all were taken
 pub none_after : (c d : Chunked) (piece : List ℕ) (taken : ℕ) → d ≡ record c { pending = drop taken c.pending } → piece ≡ c.pending → taken ≡ length piece → d.pending ≡ []

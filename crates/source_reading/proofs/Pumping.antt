@@ -1,7 +1,7 @@
 -- Bytes that came from a source, piece by piece, and what they settle.
-use Rattle.std.proofs.Common.{◌≡◌, ◌≤◌, ◌<◌, ◌-◌, ◌^◌, ℕ, Bool, false, true, List, [], ◌++◌, length, take, Option, Some, None, Result, Ok, Err, sym, ap, subst, ◌∙◌, arith, append_assoc}
+use Rattle.std.proofs.Common.{◌≡◌, ◌≤◌, ◌<◌, ◌-◌, ◌^◌, ℕ, Bool, false, true, List, [], ◌++◌, length, Option, Some, None, Result, Ok, Err, sym, ap, subst, ◌∙◌, arith, append_assoc}
 use Rattle.std.specs.Io.KnownBytes.{prepend_known, IsAtEnd}
-use Rattle.std.proofs.lemmas.List.{append-nil, take-append-le}
+use Rattle.std.proofs.lemmas.List.{append-nil}
 use Rattle.wasm_defs.specs.declared.front_stop.FrontStop.{FrontStop}
 use Rattle.wasm_defs.specs.declared.front_stop.FrontStop.TheVariants.{Refused, NoMemory}
 use Rattle.io_edges.specs.Causes.{Rose}
@@ -16,10 +16,6 @@ use Rattle.source_reading.proofs.Settling.{settled_end, settled_fault, settled_f
 pub came_more : (came piece : List ℕ) (old new : Option (List ℕ)) → old ≡ prepend_known piece new → prepend_known came old ≡ prepend_known (came ++ piece) new
 came_more came piece old None e = ap (prepend_known came) e
 came_more came piece old (Some l) e = ap (prepend_known came) e ∙ ap (λ (x : List ℕ). Some x) (sym (append_assoc came piece l))
-
--- the bytes of a piece, which are at the start of the buffer
-pub piece_is : (n : ℕ) (xs ys : List ℕ) → n ≤ length xs → take n (xs ++ ys) ≡ take n xs
-piece_is n xs ys h = take-append-le n xs ys h
 
 -- what was going on goes on with the next piece
 module _ (s : Compilation) (came piece : List ℕ) (going : (more : List ℕ) → length (came ++ more) ≤ max_read → IsGoing (came ++ more) s more) where

@@ -1,5 +1,5 @@
 -- A call of an image's function is the call of the module's.
-use Rattle.std.proofs.Common.{◌≡◌, ◌≢◌, ℕ, ◌+◌, ◌*◌, ◌≤◌, arith, Bool, true, false, List, [], ◌∷◌, map, length, Option, Some, None, refl, sym, ap, ◌∙◌, subst, inl, inr}
+use Rattle.std.proofs.Common.{◌≡◌, ℕ, ◌+◌, ◌*◌, ◌≤◌, arith, Bool, true, false, List, [], ◌∷◌, map, length, Option, Some, None, refl, sym, ap, ◌∙◌, subst, inl, inr}
 use Rattle.std.specs.Prelude.{not}
 use Rattle.std.specs.Str.{bytes_eq}
 use Rattle.std.proofs.lemmas.Bool.{cases_Bool}
@@ -22,7 +22,7 @@ use Rattle.image_linker.specs.ImageOf.{image_of, export_of, offset_of}
 use Rattle.image_linker.specs.Same.{Same}
 use Rattle.simulation.specs.SameRuns.{SameRuns, BeginsWith, IsOver, as_image, own_ending, own_run}
 use Rattle.image_run.specs.declared.checks.NotRunnable.{NotRunnable}
-use Rattle.image_run.specs.declared.checks.NotRunnable.TheVariants.{UnknownImport, NoSuchExport, WrongArguments, Unlinkable}
+use Rattle.image_run.specs.declared.checks.NotRunnable.TheVariants.{UnknownImport, WrongArguments, Unlinkable}
 use Rattle.image_run.specs.Checks.{export_named, not_runnable, unfit, has_unknown_import}
 use Rattle.image_run.specs.Ends.{run_of_export}
 use Rattle.wasi_host.specs.Answers.{bytes_written, replies}
@@ -84,17 +84,6 @@ passed i name types e is found =
       | inl h ↦ absurd (let t : Some UnknownImport ≡ None = rw h at is in cc)
       | inr h ↦ let t : unfit i types (export_named name i.exports) ≡ None = rw h at is in unfit_not i types e (rw found at t)
     ]
-
-pub there : (i : Image) (name : List ℕ) (types : List ValType) → not_runnable i name types ≡ None → export_named name i.exports ≢ None
-there i name types is none =
-    elim (cases_Bool (has_unknown_import i.imports)) [
-      | inl h ↦ let t : Some UnknownImport ≡ None = rw h at is in cc
-      | inr h ↦ let t : unfit i types (export_named name i.exports) ≡ None = rw h at is in let u : Some NoSuchExport ≡ None = rw none at t in cc
-    ]
-
--- as many arguments as parameters
-pub same_length : (ts us : List ValType) → same_types ts us ≡ true → length ts ≡ length us
-same_length ts us h = ap (λ (l : List ValType). length l) (same_types-true ts us h)
 
 -- ---- runs
 

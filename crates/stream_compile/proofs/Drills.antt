@@ -1,5 +1,5 @@
 -- What the command `drill` comes to.
-use Rattle.std.proofs.Common.{◌≡◌, ◌∙◌, ◌++◌, ℕ, ◌≤◌, false, List, Option, Some, sym, ap, subst, true≢false}
+use Rattle.std.proofs.Common.{◌≡◌, ◌∙◌, ◌++◌, ℕ, ◌≤◌, false, List, Option, Some, sym, ap, subst}
 use Rattle.std.specs.Prelude.{unwrap_or}
 use Rattle.wasm_defs.specs.declared.fault.Refusal.{Refusal}
 use Rattle.wasm_defs.specs.Context.{declared_count}
@@ -41,7 +41,3 @@ pub refused_drills : (closing : Option ℕ) (d : Drill) (bytes rest : List ℕ) 
 refused_drills closing d bytes rest refusal o most made (came, is_came, is) =
     let same : came ≡ drill_bytes d.count = flat_came closing bytes rest came is_came ∙ made in
     not_refused d.count refusal (OfDrill d o) most (subst (λ (l : List ℕ). IsVerdictOf l (Rejected refusal)) same is)
-
--- bytes in memory don't fail
-pub no_fault : (closing : Option ℕ) (left rest : Option (List ℕ)) (X : Type 0) → CompilesSource closing false left rest answer.ReadFault → X
-no_fault closing left rest X h = absurd (true≢false (sym h.0))

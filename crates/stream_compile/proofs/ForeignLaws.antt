@@ -1,9 +1,8 @@
 -- What is read of an image.
-use Rattle.std.proofs.Common.{◌≡◌, ◌≤◌, ◌<◌, ◌^◌, ◌-◌, ◌⊎◌, inl, inr, ℕ, Bool, false, List, length, Option, Ok, Err, refl, arith}
+use Rattle.std.proofs.Common.{◌≡◌, ◌≤◌, ◌⊎◌, inl, inr, ℕ, Bool, false, List, length, Option, Ok, Err, refl, arith}
 use Rattle.std.specs.Prelude.{nat_lt}
 use Rattle.std.specs.Io.KnownBytes.{prepend_known, IsAtEnd}
-use Rattle.std.proofs.lemmas.Bool.{lt-ltb, le-ltb}
-use Rattle.io_edges.specs.Causes.{Rose}
+use Rattle.std.proofs.lemmas.Bool.{le-ltb}
 use Rattle.io_edges.specs.Stops.{StopsFor}
 use Rattle.io_edges.specs.declared.reading.Stop.{Stop}
 use Rattle.io_edges.specs.declared.reading.Stop.TheVariants.{End, Failed, Full}
@@ -12,9 +11,6 @@ use Rattle.image_format.specs.Reading.{image_or_offset}
 use Rattle.stream_compile.specs.declared.foreign.LoadedImage.TheVariants as foreign
 use Rattle.source_reading.specs.Received.{AreReceivedUpTo, image_input}
 use Rattle.stream_compile.specs.Running.{IsForeign}
-
-rose_lt : (before now : ℕ) → before < 2 ^ 64 - 1 → Rose before now → before < now
-rose_lt before now few rose = omega (arith, rose)
 
 module _ (left rest : Option (List ℕ)) (before now : ℕ) (bytes : List ℕ) (taken : left ≡ prepend_known bytes rest) (few : length bytes ≤ 1073741825) where
   abbrev failed : Bool
@@ -36,6 +32,3 @@ module _ (left rest : Option (List ℕ)) (before now : ℕ) (bytes : List ℕ) (
 
   pub bad_came : (s : Stop) (offset : ℕ) → StopsFor s rest before now (length bytes) 1073741825 → (s ≡ Failed → ⊥) → image_or_offset bytes ≡ Err offset → IsForeign failed left rest (foreign.Bad offset)
   bad_came s offset stops other is = let e = ended s stops other in (calm e.0, bytes, came e.0 e.1, is)
-
-  pub failure_came : before < 2 ^ 64 - 1 → Rose before now → IsForeign failed left rest foreign.Failed
-  failure_came few_faults rose = (lt-ltb before now (rose_lt before now few_faults rose), bytes, record { taken = taken; few = few; all = λ e. absurd cc })

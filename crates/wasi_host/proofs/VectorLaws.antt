@@ -1,7 +1,6 @@
 -- Vectors of bytes, one after another.
 use Rattle.std.proofs.Common.{◌≡◌, ℕ, zero, suc, ◌+◌, ◌-◌, ◌<◌, true, false, List, [], ◌++◌, length, Option, None, Some, refl, sym, ap, ◌∙◌, subst, arith, append_assoc, length-append}
-use Rattle.std.specs.Prelude.{◌≢◌, IsSome, option_map}
-use Rattle.std.proofs.lemmas.List.{append-nil}
+use Rattle.std.specs.Prelude.{IsSome, option_map}
 use Rattle.io_edges.specs.Streams.{WritesText}
 use Rattle.io_edges.proofs.Known.{append_nothing}
 use Rattle.image_run.proofs.PrintLaws.{writes_then, fails_first}
@@ -20,18 +19,6 @@ pub summed : (memory : List ℕ) (address left sum : ℕ) (v : List ℕ) → 0 <
     → option_map (λ n. sum + n) (option_map length (gathered memory address left)) ≡ option_map (λ n. (sum + length v) + n) (option_map length (gathered memory (address + 8) (left - 1)))
 summed memory address zero sum v more is = absurd (omega (arith, more))
 summed memory address (suc left) sum v more is = rw (before_next left) (rw (sym is) (added sum v (gathered memory (address + 8) left)))
-
-pub outside : (memory : List ℕ) (address left : ℕ) → 0 < left → None ≡ vector_at memory address → gathered memory address left ≡ None
-outside memory address zero more is = absurd (omega (arith, more))
-outside memory address (suc left) more is = rw (sym is) refl
-
-pub all_summed : (memory : List ℕ) (address left sum : ℕ) → left ≡ 0 → option_map (λ n. sum + n) (option_map length (gathered memory address left)) ≡ Some sum
-all_summed memory address zero sum is = ap (λ (n : ℕ). Some n) (omega arith)
-all_summed memory address (suc left) sum is = absurd (omega (arith, is))
-
-pub from_nothing : (o : Option ℕ) → o ≡ option_map (λ n. 0 + n) o
-from_nothing None = refl
-from_nothing (Some n) = ap (λ (k : ℕ). Some k) (omega arith)
 
 -- ---- what is written
 
@@ -66,11 +53,6 @@ parted memory address (suc left) v rest more is h =
     let b = prepended_some v rest (gathered memory (address + 8) left) t in
     record { later = b.0; there = rw (before_next left) b.1; same = b.2 }
 
-pub inside : (memory : List ℕ) (iovs count address left : ℕ) (old now : Option (List ℕ)) (before after : ℕ) → Writing memory iovs count address left old now before after → 0 < left → None ≢ vector_at memory address
-inside memory iovs count address left old now before after w more is =
-    let t : None ≡ Some w.rest = sym (outside memory address left more is) ∙ w.there in
-    absurd cc
-
 pub went_on : (memory : List ℕ) (iovs count address left : ℕ) (v : List ℕ) (old now new : Option (List ℕ)) (before after last : ℕ) → Writing memory iovs count address left old now before after → 0 < left
     → Some v ≡ vector_at memory address → WritesText true v now new after last → Writing memory iovs count (address + 8) (left - 1) old new before last
 went_on memory iovs count address left v old now new before after last w more is h =
@@ -91,14 +73,3 @@ failed memory iovs count address left v old now new before after last w more is 
       w.whole ∙ ap (λ (l : List ℕ). Some (w.done ++ l)) p.same ∙ ap (λ (l : List ℕ). Some l) (sym (append_assoc w.done v p.later)),
       fails_first (w.done ++ v) p.later old new before last (writes_then false w.done v old now new before after last w.wrote h),
     )
-
-some_is : (a b : List ℕ) → Some a ≡ Some b → a ≡ b
-some_is a b h = cc
-
-pub finished : (memory : List ℕ) (iovs count address left : ℕ) (old now : Option (List ℕ)) (before after : ℕ) → Writing memory iovs count address left old now before after → left ≡ 0
-    → (text : List ℕ) × (gathered memory iovs count ≡ Some text) × WritesText true text old now before after
-finished memory iovs count address zero old now before after w over =
-    let nothing : [] ≡ w.rest = some_is [] w.rest w.there in
-    let all : w.done ++ w.rest ≡ w.done = ap (λ (l : List ℕ). w.done ++ l) (sym nothing) ∙ append-nil w.done in
-    (w.done, w.whole ∙ ap (λ (l : List ℕ). Some l) all, w.wrote)
-finished memory iovs count address (suc left) old now before after w over = absurd (omega (arith, over))

@@ -136,12 +136,6 @@ module _ (text : List (Option Op)) (near : length text ≤ 2 ^ 26) (inst : Insta
       abbrev count : ℕ
       count = length ty.params
 
-      abbrev passing : List Value
-      passing = take count ops
-
-      abbrev keeping : List Value
-      keeping = drop count ops
-
       abbrev caller : Frame
       caller = record c.frame { operands = drop (length ty.params) c.frame.operands; code = rest }
 

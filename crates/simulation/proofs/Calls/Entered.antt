@@ -76,9 +76,6 @@ module _ (code : List (Option Op)) (l : Layout) (f : Func) (base : ℕ) (argumen
 
 module _ (text : List (Option Op)) (near : length text ≤ 2 ^ 26) (inst : Instance) (places : TextPlaces) (outer : Types) (stub : HasAt text 0 exit_stub) where
   module _ {f : Func} (k : Compiled text inst places f) where
-    abbrev rs : Types
-    rs = k.context.results
-
     abbrev inner : Context
     inner = under k.context (own text inst places k ∷ [])
 

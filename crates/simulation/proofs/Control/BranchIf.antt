@@ -75,9 +75,6 @@ module _ (text : List (Option Op)) (near : length text ≤ 2 ^ 26) (inst : Insta
       types : types_of_values below ≡ m.running.sits.typed.0
       types = let e = x.moves.before in let f = x.moves.after in cc
 
-      whole_is : length ((v ∷ below) ++ belows start.frame.labels) ≡ suc (length (below ++ belows start.frame.labels))
-      whole_is = refl
-
       words_here : HasAt text (k.begin + m.here) (jump_if_words k.around (length ((v ∷ below) ++ belows start.frame.labels)) m.here (label_at k.around (labels_of os) l))
       words_here = has_here text near inst places outer stub c s (BrIf l) rest m
 

@@ -53,9 +53,6 @@ module _ (text : List (Option Op)) (inst : Instance) (places : TextPlaces) {f : 
     abbrev n : ℕ
     n = length s.results
 
-    abbrev opened : ℕ → Open
-    opened end = record { takes = s.results; base = h - 1 - length s.params; place = end; behind = 1 + tokens_in rest + behind_of os }
-
     -- what follows
     behind_sits : (below : Types) (end : ℕ) → IsCovered rest → Typed at rest (s.results ++ below) to → peak at rest (after_if s (Some h)) ≤ k.around.layout.greatest → HasAt text (k.begin + end) (code k.around at labels (after_if s (Some h)) end rest)
         → k.begin + (end + length (code k.around at labels (after_if s (Some h)) end rest)) ≤ length text → Ending text inst places k (end_of at rest (after_if s (Some h))) (end + length (code k.around at labels (after_if s (Some h)) end rest)) there

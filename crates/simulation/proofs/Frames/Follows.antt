@@ -3,7 +3,7 @@ use Rattle.std.proofs.Common.{◌≡◌, ℕ, suc, ◌+◌, ◌*◌, ◌<◌, �
 use Rattle.rv_isa.specs.declared.operations.Op.{Op}
 use Rattle.rv_isa.specs.Steps.{State, Bytes, reg, exec, Called}
 use Rattle.rv_isa.specs.Runs.{place, Reaches, FitWindows}
-use Rattle.rv_isa.proofs.RunLaws.{Reaches-none, Reaches-then}
+use Rattle.rv_isa.proofs.RunLaws.{Reaches-then}
 use Rattle.wasm_defs.specs.declared.place.Place.{Place}
 use Rattle.wasm_defs.specs.declared.value.TrapKind.{TrapKind}
 use Rattle.wasm_defs.specs.Trees.{Sort, Part, Seq, Nothing, Simple, Block, Loop, If, Else}
@@ -142,15 +142,6 @@ module _ (text : List (Option Op)) (inst : Instance) (places : TextPlaces) where
         beside = x.beside;
         registers = registers;
       }
-
-      -- and without a word
-      abbrev pub stands_still : (operands : List Value) (tree : Seq) (labels : List config.Label) (os : List Open) (to : Types) (there : ℕ) → operands ++ belows labels ≡ whole f
-          → Sits text inst places m.running.compiled os (length (belows labels)) (types_of_values operands) m.here tree to there
-          → Fit text inst places m.running.compiled labels os to there → Leads 0 s (record f { operands = operands; code = tree; labels = labels }) callers
-      stands_still operands tree labels os to there same sits fit =
-          proceeds 0 0 m.here there s f.locals operands tree labels os to (omega arith) (Reaches-none text s) m.at
-          (subst (λ (vs : List Value). Matches m.running.compiled.around.layout (used callers) m.address s.bytes f.locals vs s) (sym same) matches_now) refl sits fit
-          (record { by = λ r a b c. refl })
 
 -- ---- what a rule comes to
 

@@ -52,9 +52,6 @@ module _ (text : List (Option Op)) (near : length text ≤ 2 ^ 26) (inst : Insta
   abbrev labels : List Label
   labels = labels_of m.running.os
 
-  abbrev lower : List Value
-  lower = belows c.frame.labels
-
   abbrev n : ℕ
   n = length (belows c.frame.labels)
 

@@ -8,9 +8,6 @@ use Rattle.leb_feed.specs.declared.number.ReadAt.TheVariants as answers
 use Rattle.leb_feed.proofs.Readings.{goes_on, ends_with, near, joined, more_bits, more_below, product_fits, sum_fits}
 use Rattle.leb_feed.proofs.number.number_of_bytes.Goals as goal
 
-byte : goal.After-from → ℕ
-byte c = get_or c.args.bytes.now c.loop-at.at 0
-
 said : (c : goal.After-from) → answers.Number c.in-Number.high c.in-Number.next ≡ answer c.loop-at.at (last_byte c.args.signed c.loop-at.left (get_or c.args.bytes.now c.loop-at.at 0))
 said c =
     let here : c.loop-at.at + 1 - 1 ≡ c.loop-at.at = omega arith in
