@@ -102,6 +102,19 @@ impl Cutter {
         Ok(taken.len())
     }
 
+    /// How many bodies are still to begin.
+    pub fn bodies_left(&self) -> u32 {
+        self.walk.count
+    }
+
+    /// How many bytes the bodies of a batch have in the mean, of those that are still to come: as many as a batch closes with, or as many
+    /// as a body has where that is more.
+    pub fn mean_batch(&self) -> u64 {
+        let bytes = self.walk.end.saturating_sub(self.walk.at);
+        let bodies = u64::from(self.walk.count.max(1));
+        (bytes / bodies).max(u64::from(self.walk.least))
+    }
+
     /// Bytes that are in the section.
     fn take_in(&mut self, piece: &[u8]) -> Result<(), AllocError>
         requires going { self.old.place.stop ≡ None }

@@ -16,6 +16,7 @@ use batch_pool::{
     workers_for,
 };
 use body_compiler::Row;
+use body_cutter::Cutter;
 use cancel_drain::{Board, BoardSeat};
 use index_spaces::Context;
 use io_edges::{Gate, Source};
@@ -31,6 +32,13 @@ const WORKER_BYTES: usize = 262_144;
 
 /// How many batches of a round there are for each worker.
 const WORKER_BATCHES: usize = 8;
+
+/// How many bytes a batch has in the mean, at least, that is handed to workers: handing over a smaller one takes longer than validating
+/// its bodies.
+const LEAST_BATCH: u64 = 64;
+
+/// How many bodies are handed to workers in batches of any size: so few that nobody waits for it.
+const FEW_BODIES: u32 = 4_096;
 
 /// How many bytes of a round there are for each function.
 const FUNCTION_BYTES: usize = 16;
@@ -234,8 +242,13 @@ fn round_of(workers: u32, compilation: &Compilation) -> Round {
     }
 }
 
+/// Whether the batches that are still to come are many, and so small that workers would only delay them.
+fn are_small(cutter: &Cutter) -> bool {
+    FEW_BODIES < cutter.bodies_left() && cutter.mean_batch() < LEAST_BATCH
+}
+
 /// Where bodies come next, reads those of a round in parallel with so many workers, and validates them, so that the compilation can go
-/// on after them; or says what the bytes come to.
+/// on after them; or says what the bytes come to. It reads none where their batches are many and small.
 #[tactic(auto, using(crate::proofs::Fronts::took_nothing))]
 fn read_round<R: Threads + Wait + Sync, S: Source, G: Gate>(
     rt: &R,
@@ -257,7 +270,8 @@ fn read_round<R: Threads + Wait + Sync, S: Source, G: Gate>(
     let Some(cutter) = compilation.take_cutter() else {
         return Ok(chunk);
     };
-    if cutter.is_whole() {
+    // Why: docs/DECISIONS.md, "Many small batches are read without workers"
+    if cutter.is_whole() || are_small(&cutter) {
         compilation.put_cutter(cutter);
         return Ok(chunk);
     }
