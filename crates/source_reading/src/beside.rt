@@ -35,7 +35,7 @@ const WORKER_BATCHES: usize = 8;
 
 /// How many bytes a batch has in the mean, at least, that is handed to workers: handing over a smaller one takes longer than validating
 /// its bodies.
-const LEAST_BATCH: u64 = 64;
+const LEAST_BATCH: u64 = 128;
 
 /// How many bodies are handed to workers in batches of any size: so few that nobody waits for it.
 const FEW_BODIES: u32 = 4_096;
