@@ -37,6 +37,9 @@ const WORKER_BATCHES: usize = 8;
 /// its bodies.
 const LEAST_BATCH: u64 = 128;
 
+/// The same where there is one worker, beside which the reader has nothing to do but to hand over.
+const LONE_BATCH: u64 = 512;
+
 /// How many bodies are handed to workers in batches of any size: so few that nobody waits for it.
 const FEW_BODIES: u32 = 4_096;
 
@@ -242,9 +245,14 @@ fn round_of(workers: u32, compilation: &Compilation) -> Round {
     }
 }
 
-/// Whether the batches that are still to come are many, and so small that workers would only delay them.
-fn are_small(cutter: &Cutter) -> bool {
-    FEW_BODIES < cutter.bodies_left() && cutter.mean_batch() < LEAST_BATCH
+/// Whether the batches that are still to come are many, and so small that so many workers would only delay them.
+fn are_small(cutter: &Cutter, workers: u32) -> bool {
+    let least = if workers == 1 {
+        LONE_BATCH
+    } else {
+        LEAST_BATCH
+    };
+    FEW_BODIES < cutter.bodies_left() && cutter.mean_batch() < least
 }
 
 /// Where bodies come next, reads those of a round in parallel with so many workers, and validates them, so that the compilation can go
@@ -271,7 +279,7 @@ fn read_round<R: Threads + Wait + Sync, S: Source, G: Gate>(
         return Ok(chunk);
     };
     // Why: docs/DECISIONS.md, "Many small batches are read without workers"
-    if cutter.is_whole() || are_small(&cutter) {
+    if cutter.is_whole() || are_small(&cutter, workers) {
         compilation.put_cutter(cutter);
         return Ok(chunk);
     }
