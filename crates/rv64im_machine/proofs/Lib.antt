@@ -1,2 +1,3 @@
 pub mod Underway
 pub mod TransitionLaws
+pub mod Spanning
