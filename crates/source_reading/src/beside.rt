@@ -37,8 +37,11 @@ const WORKER_BATCHES: usize = 8;
 /// its bodies.
 const LEAST_BATCH: u64 = 128;
 
-/// The same where there is one worker, beside which the reader has nothing to do but to hand over.
+/// The same where one worker is asked for, beside which the reader has nothing to do but to hand over.
 const LONE_BATCH: u64 = 512;
+
+/// How many workers there are where one is asked for: that one and the thread that reads (`workers_for`).
+const LONE_WORKERS: u32 = 2;
 
 /// How many bodies are handed to workers in batches of any size: so few that nobody waits for it.
 const FEW_BODIES: u32 = 4_096;
@@ -247,7 +250,7 @@ fn round_of(workers: u32, compilation: &Compilation) -> Round {
 
 /// Whether the batches that are still to come are many, and so small that so many workers would only delay them.
 fn are_small(cutter: &Cutter, workers: u32) -> bool {
-    let least = if workers == 1 {
+    let least = if workers <= LONE_WORKERS {
         LONE_BATCH
     } else {
         LEAST_BATCH
