@@ -113,7 +113,7 @@ fn take_checked(
 {
     match note_token(
         &mut draft.sites,
-        draft.function.words(),
+        draft.function.word_count(),
         step.live,
         at,
         token,

@@ -6,8 +6,8 @@ use Rattle.rv_isa.specs.declared.compiled.Relocation.{Relocation}
 use Rattle.rv_isa.specs.declared.compiled.TrapSite.{TrapSite}
 use Rattle.code_list.specs.declared.list.CodeEnd.{CodeEnd}
 use Rattle.code_list.specs.declared.list.CodeParts.{CodeParts}
-use Rattle.code_list.specs.declared.list.Words.{Words}
-use Rattle.code_list.specs.declared.list.Words.TheVariants.{Lent, Own}
+use Rattle.code_list.specs.declared.list.Added.{Added}
+use Rattle.code_list.specs.declared.list.Added.TheVariants.{Lent, Own}
 
 -- the code between two ends
 abbrev pub code_between : List ℕ → List Relocation → List TrapSite → CodeEnd → CodeEnd → Code
@@ -54,10 +54,10 @@ code_at codes k = slice_index_or codes k no_code
 
 -- the parts of these codes, with some traps
 abbrev pub IsParts : List Code → CodeParts → Type 0
-IsParts codes p = (sites : List TrapSite) × AreEnds (length p.text.items) (length p.calls.items) (length sites) p.begin p.ends.items
-    × (codes ≡ codes_from p.text.items p.calls.items sites p.begin p.ends.items)
+IsParts codes p = (sites : List TrapSite) × AreEnds (length p.text) (length p.calls.items) (length sites) p.begin p.ends.items
+    × (codes ≡ codes_from p.text p.calls.items sites p.begin p.ends.items)
 
 -- the instruction words, whether lent or not
-abbrev pub words_of : Words → List ℕ
+abbrev pub words_of : Added → List ℕ
 words_of (Lent words) = words.now
-words_of (Own words) = words.items
+words_of (Own words) = words

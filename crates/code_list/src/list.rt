@@ -4,7 +4,7 @@ ghost use Rattle.std.specs.Prelude.{◌≡◌, ◌<◌, ◌≤◌, ◌++◌, ◌
 ghost use Rattle.std.specs.List.{between};
 ghost use Rattle.code_list.specs.CodeLists.{code_at, end_before, words_of, IsParts};
 
-use rv_isa::{Code, Relocation, TrapSite};
+use rv_isa::{Code, Relocation, TrapSite, Words};
 use std::alloc::{AllocError, Global};
 use std::marker::Model;
 
@@ -32,7 +32,7 @@ pub struct CodeEnd {
 /// ```
 #[derive(Drop)]
 pub struct CodeList {
-    text: Vec<u32>,
+    text: Words,
     calls: Vec<Relocation>,
     sites: Vec<TrapSite>,
     /// Where the first code begins.
@@ -47,16 +47,16 @@ impl Model for CodeList {
 
     ghost Value = { List Code };
 
-    ghost view = { λ l. codes_from l.text.items l.calls.items l.sites.items l.begin l.ends.items };
+    ghost view = { λ l. codes_from l.text l.calls.items l.sites.items l.begin l.ends.items };
 
-    ghost invariant = { λ l. AreEnds (length l.text.items) (length l.calls.items) (length l.sites.items) l.begin l.ends.items };
+    ghost invariant = { λ l. AreEnds (length l.text) (length l.calls.items) (length l.sites.items) l.begin l.ends.items };
 }
 
-/// The instruction words of a code, and its traps.
+/// How long a code is, and its traps.
 #[derive(Clone, Copy)]
 pub struct CodeView<'a> {
-    /// Its instruction words, in which calls have no distance yet.
-    pub words: &'a [u32],
+    /// How many instruction words it has.
+    pub words: usize,
     /// Its traps, in the order of their instruction words; indices count from the code's first word.
     pub traps: &'a [TrapSite],
 }
@@ -65,7 +65,7 @@ pub struct CodeView<'a> {
 #[derive(Drop)]
 pub struct CodeParts {
     /// The instruction words of all codes, behind those that are no code's.
-    pub text: Vec<u32>,
+    pub text: Words,
     /// The calls of all codes, in order; their indices count from the first word of the code that each is in.
     pub calls: Vec<Relocation>,
     /// Where the first code begins.
@@ -96,29 +96,19 @@ fn part<T>(items: &[T], begin: usize, end: usize) -> &[T]
 
 /// The instruction words of a code.
 #[derive(Drop)]
-enum Words<'a> {
-    Lent(&'a [u32]),
-    Own(Vec<u32>),
+enum Added<'a> {
+    Lent(&'a Words),
+    Own(Words),
 }
 
-/// Puts instruction words after others. Where the words are the more, the others are put before them, so that memory is wanted for the
-/// others alone.
-fn append_words(text: &mut Vec<u32>, words: Words<'_>) -> Result<(), AllocError>
-    ensures ok { OnOk result (text.new.items ≡ text.old.items ++ words_of words.entry) }
-    ensures err { OnErr result (text.new.items ≡ text.old.items) }
+/// Puts instruction words after others.
+fn append_words(text: &mut Words, words: Added<'_>) -> Result<(), AllocError>
+    ensures ok { OnOk result (text.new ≡ text.old ++ words_of words.entry) }
+    ensures err { OnErr result (text.new ≡ text.old) }
 {
     match words {
-        Words::Lent(words) => text.extend_from_slice(words),
-        Words::Own(mut words) => {
-            let count = words.len();
-            if count <= text.len() {
-                return text.extend_from_slice(&words);
-            }
-            words.extend_from_slice(text)?;
-            words.rotate_left(count);
-            *text = words;
-            Ok(())
-        }
+        Added::Lent(words) => text.append(words),
+        Added::Own(words) => text.append_own(words),
     }
 }
 
@@ -128,7 +118,7 @@ impl CodeList {
         ensures { result ≡ [] }
     {
         CodeList {
-            text: Vec::new(alloc),
+            text: Words::new(alloc),
             calls: Vec::new(alloc),
             sites: Vec::new(alloc),
             begin: CodeEnd {
@@ -146,7 +136,7 @@ impl CodeList {
         ensures { self.new ≡ self.old }
     {
         if self.ends.is_empty() {
-            self.text.resize(words, 0)?;
+            self.text.resize(words)?;
             self.begin.words = words;
         }
         Ok(())
@@ -155,7 +145,7 @@ impl CodeList {
     /// One code more, after the others: its instruction words, calls and traps, and the slots that it needs.
     fn append(
         &mut self,
-        words: Words<'_>,
+        words: Added<'_>,
         calls: &[Relocation],
         sites: &[TrapSite],
         need: u32,
@@ -185,7 +175,7 @@ impl CodeList {
         ensures err { OnErr result (self.new ≡ self.old) }
     {
         self.append(
-            Words::Lent(code.words.as_slice()),
+            Added::Lent(&code.words),
             code.relocations.as_slice(),
             code.traps.as_slice(),
             code.need,
@@ -198,7 +188,7 @@ impl CodeList {
         ensures err { OnErr result (self.new ≡ self.old) }
     {
         self.append(
-            Words::Own(code.words.into_vec()),
+            Added::Own(code.words),
             code.relocations.as_slice(),
             code.traps.as_slice(),
             code.need,
@@ -215,12 +205,12 @@ impl CodeList {
     /// The code of an index.
     pub fn get(&self, index: usize) -> CodeView<'_>
         requires { index < length self.now }
-        ensures words { result.words.now ≡ (code_at self.now index).words }
+        ensures words { result.words ≡ length (code_at self.now index).words }
         ensures traps { result.traps.now ≡ (code_at self.now index).traps }
     {
         let begin = end_before(self.begin, &self.ends, index);
         let end = self.ends[index];
-        let words = part(&self.text, begin.words, end.words);
+        let words = end.words - begin.words;
         let traps = part(&self.sites, begin.sites, end.sites);
         CodeView { words, traps }
     }

@@ -75,7 +75,7 @@ pub fn put_before_text(out: &mut Vec<u8>, image: &Image) -> Result<(), AllocErro
 {
     MAGIC.put(out)?;
     image.version.number().put(out)?;
-    put_count(out, image.text.as_slice().len())?;
+    put_count(out, image.text.len())?;
     Ok(())
 }
 

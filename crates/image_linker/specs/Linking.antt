@@ -67,6 +67,10 @@ abbrev pub words_from : (places : List ℕ) (here : ℕ) → List Code → List 
 words_from places here [] = []
 words_from places here (c ∷ cs) = words_at places here c ++ words_from places (here + length c.words) cs
 
+-- what a text is that has a code from one index up to another, once that is changed
+abbrev pub changed : (begin end : ℕ) → (List ℕ → List ℕ) → List ℕ → List ℕ
+changed begin end change text = take begin text ++ (change (between begin end text) ++ drop end text)
+
 -- a text of codes that have these ends, once their calls lead to the functions: what is before the first code stays
 abbrev pub led_text : (places : List ℕ) → List Relocation → List TrapSite → (text : List ℕ) → (here : ℕ) → CodeEnd → List CodeEnd → List ℕ
 led_text places calls sites text here first ends = take first.words text ++ words_from places here (codes_from text calls sites first ends)

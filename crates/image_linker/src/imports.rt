@@ -12,7 +12,7 @@ ghost use Rattle.image_linker.specs.Signatures.{AreOf};
 use crate::signatures::signature_at;
 use image_format::{Import, SharedType};
 use index_spaces::{Context, copy_of_name};
-use rv_isa::{Imm12, ImmOp, Op, Register, WordBuffer, encode};
+use rv_isa::{Imm12, ImmOp, Op, Register, WordBuffer, Words, encode};
 use std::alloc::{AllocError, Global};
 use table_calls::emit_import_stub;
 
@@ -84,20 +84,18 @@ fn params_of(context: &Context, type_index: u32) -> u32
 }
 
 /// The instruction words before the functions' codes: the exit stub, and a stub for each import.
-pub(crate) fn front(alloc: Global, context: &Context) -> Result<Vec<u32>, AllocError>
+pub(crate) fn front(alloc: Global, context: &Context) -> Result<Words, AllocError>
     requires { AreImports (map (linked_import context.now.types) context.now.imports) }
-    ensures { IfOk result (λ text. text.items ≡ front_words context.now) }
+    ensures { IfOk result (λ text. text ≡ front_words context.now) }
 {
-    let mut text = Vec::from_slice(alloc, &exit_stub())?;
-    let mut stub = WordBuffer::with_room(alloc, STUB_WORDS as usize)?;
+    let mut text = WordBuffer::with_room(alloc, STUB_WORDS as usize)?;
+    text.append(&exit_stub())?;
     let mut number = 0;
     for import in context.imports() {
-        stub.truncate(0);
-        emit_import_stub(&mut stub, params_of(context, import.type_index), number)?;
-        text.extend_from_slice(stub.as_slice())?;
+        emit_import_stub(&mut text, params_of(context, import.type_index), number)?;
         number += 1;
     }
-    Ok(text)
+    Ok(text.finish())
 }
 
 /// The imports of the image: the names and the types of the imported functions. Those of one type share it.

@@ -32,7 +32,7 @@ pub fn text_limit(context: &Context, codes: &CodeList, size_offsets: &[u64]) -> 
     let imported = context.imports().len() as u64;
     let mut words = 0;
     for index in 0..codes.count() {
-        words += codes.get(index).words.len() as u128;
+        words += codes.get(index).words as u128;
         if passes_limit(imported, words) {
             return Some(Refusal {
                 offset: size_offsets[index],

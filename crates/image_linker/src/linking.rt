@@ -27,7 +27,7 @@ ghost use Rattle.image_linker.specs.ImageOf.{front_of, distances, image_of, vers
 ghost use Rattle.image_linker.specs.Same.{Same};
 ghost use Rattle.image_linker.specs.Whole.{IsWhole};
 ghost use Rattle.image_linker.specs.Signatures.{AreOf};
-ghost use Rattle.image_linker.specs.Linking.{NumbersFit, words_of, words_from, led_text, starts_behind, front_words, has_room, with_segments};
+ghost use Rattle.image_linker.specs.Linking.{NumbersFit, changed, words_of, words_from, led_text, starts_behind, front_words, has_room, with_segments};
 ghost use Rattle.image_linker.specs.Linking.{linked, linked_export, linked_import, linked_start};
 
 use crate::imports::{front, front_of, imports_of, stub_places};
@@ -43,7 +43,7 @@ use image_format::{
     Version,
 };
 use index_spaces::{Context, DataRow, copy_of_name};
-use rv_isa::{Relocation, encode};
+use rv_isa::{Relocation, Words, encode};
 use std::alloc::{AllocError, Global};
 use wasm_defs::{Bytes, Extern};
 
@@ -57,45 +57,65 @@ pub(crate) fn start_at(starts: &[u32], function: u32) -> u32
     }
 }
 
-/// Replaces the instruction word at an index, if there is one.
-fn replace(words: &mut [u32], place: usize, word: u32)
-    ensures { words.new ≡ slice_set words.old place word }
+/// Replaces the instruction word at an index of a code, if there is one. The text has the code from one index up to another.
+fn replace(text: &mut Words, begin: usize, end: usize, place: usize, word: u32)
+    requires rises { begin ≤ end }
+    requires within { end ≤ length text.old }
+    ensures { text.new ≡ changed begin end (λ code. slice_set code place word) text.old }
 {
-    if place < words.len() {
-        words[place] = word;
+    if place < end - begin {
+        text.set(begin + place, word);
     }
 }
 
-/// Lets a call of a code, whose instruction words begin at an index of the text, lead to its function, where functions begin at
-/// these indices.
-fn lead(words: &mut [u32], call_to: &Relocation, starts: &[u32], here: usize)
-    requires { here < 2 ^ 62 }
-    ensures { words.new ≡ with_distance (distances starts.now here call_to.now.place call_to.now.function) call_to.now.place words.old }
+/// Lets a call of a code lead to its function, where functions begin at these indices. The text has the code from one index up to
+/// another, and the image's text from an index on.
+fn lead(
+    text: &mut Words,
+    begin: usize,
+    end: usize,
+    call_to: &Relocation,
+    starts: &[u32],
+    here: usize,
+)
+    requires rises { begin ≤ end }
+    requires within { end ≤ length text.old }
+    requires few { here < 2 ^ 62 }
+    ensures { text.new ≡ changed begin end (with_distance (distances starts.now here call_to.now.place call_to.now.function) call_to.now.place) text.old }
 {
     let place = call_to.place;
     // Why: docs/DECISIONS.md, "Filling in calls asks nothing of a code"
-    if words.len() <= place {
+    if end - begin <= place {
         return;
     }
     let there = start_at(starts, call_to.function);
     let [upper, lower] = call(distance(here + place, there as usize));
-    replace(words, place, encode(upper));
-    replace(words, place + 1, encode(lower));
+    replace(text, begin, end, place, encode(upper));
+    replace(text, begin, end, place + 1, encode(lower));
 }
 
-/// Lets the calls of a code, whose instruction words begin at an index of the text, lead to their functions.
-fn lead_all(words: &mut [u32], calls: &[Relocation], starts: &[u32], here: usize)
-    requires { here < 2 ^ 62 }
-    ensures { words.new ≡ with_distances (distances starts.now here) calls.now words.old }
+/// Lets the calls of a code lead to their functions.
+fn lead_all(
+    text: &mut Words,
+    begin: usize,
+    end: usize,
+    calls: &[Relocation],
+    starts: &[u32],
+    here: usize,
+)
+    requires rises { begin ≤ end }
+    requires within { end ≤ length text.old }
+    requires few { here < 2 ^ 62 }
+    ensures { text.new ≡ changed begin end (with_distances (distances starts.now here) calls.now) text.old }
 {
     for call_to in calls {
-        lead(words, call_to, starts, here);
+        lead(text, begin, end, call_to, starts, here);
     }
 }
 
 /// Lets the calls of a code of a text lead to their functions: of the one between two ends, which the image's text has from an index on.
 fn lead_between(
-    text: &mut [u32],
+    text: &mut Words,
     calls: &[Relocation],
     begin: CodeEnd,
     end: CodeEnd,
@@ -111,12 +131,12 @@ fn lead_between(
         (between begin.words end.words text.old) ++ drop end.words text.old) }
 {
     let own = &calls[begin.calls..end.calls];
-    lead_all(&mut text[begin.words..end.words], own, starts, here);
+    lead_all(text, begin.words, end.words, own, starts, here);
 }
 
 /// Lets the calls of all codes of a text lead to their functions, where the image's text has the first code from an index on.
 fn lead_codes(
-    text: &mut [u32],
+    text: &mut Words,
     calls: &[Relocation],
     first: CodeEnd,
     ends: &[CodeEnd],
@@ -137,24 +157,16 @@ fn lead_codes(
     }
 }
 
-/// Writes words over the first ones of a text.
-fn put_front(text: &mut [u32], words: &[u32])
-    requires { length words.now ≤ length text.old }
-    ensures { text.new ≡ words.now ++ drop (length words.now) text.old }
-{
-    text[..words.len()].copy_from_slice(words);
-}
-
 /// A text in which stubs come before what is in another one from an index on. That one is it, where the stubs fit before the index.
-fn with_stubs(mut text: Vec<u32>, mut stubs: Vec<u32>, begin: usize) -> Result<Vec<u32>, AllocError>
-    requires { begin ≤ length text.items }
-    ensures { IfOk result (λ whole. whole.items ≡ stubs.items ++ drop begin text.items) }
+fn with_stubs(mut text: Words, mut stubs: Words, begin: usize) -> Result<Words, AllocError>
+    requires { begin ≤ length text }
+    ensures { IfOk result (λ whole. whole ≡ stubs ++ drop begin text) }
 {
     if stubs.len() == begin {
-        put_front(&mut text, &stubs);
+        text.overwrite(&stubs);
         return Ok(text);
     }
-    stubs.extend_from_slice(&text[begin..])?;
+    stubs.append_from(&text, begin)?;
     Ok(stubs)
 }
 
@@ -164,9 +176,9 @@ fn text_of(
     context: &Context,
     codes: CodeList,
     starts: &[u32],
-) -> Result<Vec<u32>, AllocError>
+) -> Result<Words, AllocError>
     requires { AreImports (map (linked_import context.now.types) context.now.imports) }
-    ensures { IfOk result (λ text. text.items ≡ front_words context.now ++ words_from starts.now (front_of (length context.now.imports)) codes) }
+    ensures { IfOk result (λ text. text ≡ front_words context.now ++ words_from starts.now (front_of (length context.now.imports)) codes) }
 {
     // Why: docs/DECISIONS.md, "The image's instruction words are those of the codes"
     let stubs = front(alloc, context)?;
@@ -189,7 +201,7 @@ fn starts_of(alloc: Global, imported: usize, codes: &CodeList) -> Result<Vec<u32
     let mut here = front_of(imported);
     for index in 0..codes.count() {
         starts.push(here)?;
-        here += codes.get(index).words.len() as u32;
+        here += codes.get(index).words as u32;
     }
     Ok(starts)
 }

@@ -81,7 +81,7 @@ pub(crate) fn places_of(
     for index in 0..codes.count() {
         let code = codes.get(index);
         put_sites(&mut places, here, function, code.traps)?;
-        here += code.words.len() as u32;
+        here += code.words as u32;
         function = function.saturating_add(1);
     }
     Ok(places)

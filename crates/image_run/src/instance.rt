@@ -73,7 +73,7 @@ impl<'a> Instance<'a> {
         ensures results { IfOk result (λ s. s.results ≡ []) }
     {
         let regions = regions_of(alloc, image)?;
-        let machine = Machine::new(alloc, image.text.as_slice(), regions)?;
+        let machine = Machine::new(alloc, image.text.to_vec(alloc)?, regions)?;
         let room = vec![in alloc; Value::I32(0); PARAMS as usize]?;
         Ok(Instance {
             image,

@@ -22,7 +22,7 @@ pub(crate) fn bytes_wanted(image: &Image) -> u64
     let table = 16 * image.table.as_slice().len() as u64;
     let memory = PAGE * u64::from(image.cap);
     let passive = image.passive.as_slice().len() as u64;
-    let text = 4 * image.text.as_slice().len() as u64;
+    let text = 4 * image.text.len() as u64;
     let decoded = ENTRY_BYTES * ENTRIES;
     let arguments = VALUE_BYTES * u64::from(PARAMS);
     stack + globals + table + memory + passive + text + decoded + arguments

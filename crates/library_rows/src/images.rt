@@ -39,7 +39,7 @@ fn export_told(alloc: Global, export: &Export) -> Result<String, Fail> {
 
 /// What an image has.
 fn parts_told(alloc: Global, image: &Image) -> Result<String, Fail> {
-    let words = image.text.as_slice().len();
+    let words = image.text.len();
     let mut told = format!(in alloc; "version {:?} of {words} words", image.version)?;
     for export in image.exports.as_slice() {
         told.push_str(export_told(alloc, export)?.as_str())?;

@@ -100,7 +100,7 @@ pub fn add_code(
     ensures takes { TakesCode spaces.now codes.old (body_of body.entry) result codes.new }
     ensures kept { KeepsAlike codes.old codes.new }
 {
-    match keep_limit(spaces, codes, body, code.words.as_slice().len() as u64) {
+    match keep_limit(spaces, codes, body, code.words.len() as u64) {
         Ok(()) => {}
         Err(stop) => return Err(stop),
     }
@@ -122,7 +122,7 @@ fn add_own_code(
     ensures takes { TakesCode spaces.now codes.old (body_of body.entry) result codes.new }
     ensures kept { KeepsAlike codes.old codes.new }
 {
-    match keep_limit(spaces, codes, body, code.words.as_slice().len() as u64) {
+    match keep_limit(spaces, codes, body, code.words.len() as u64) {
         Ok(()) => {}
         Err(stop) => return Err(stop),
     }

@@ -62,7 +62,7 @@ impl Codes {
             codes.push(code)?;
         }
         self.count += 1;
-        self.words += code.words.as_slice().len() as u64;
+        self.words += code.words.len() as u64;
         Ok(())
     }
 
@@ -73,7 +73,7 @@ impl Codes {
         ensures ok { OnOk result (self.new ≡ with_code self.old code) }
         ensures err { OnErr result (self.new ≡ self.old) }
     {
-        let words = code.words.as_slice().len() as u64;
+        let words = code.words.len() as u64;
         if let Some(codes) = &mut self.kept {
             codes.begin(words_before(imported))?;
             codes.push_own(code)?;

@@ -1,4 +1,5 @@
 pub mod Words
+pub mod Stored
 pub mod Values
 pub mod Steps
 pub mod Runs

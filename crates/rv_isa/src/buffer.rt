@@ -3,6 +3,7 @@ ghost use Rattle.std.specs.Prelude.{◌≡◌, ◌<◌, ◌≤◌, [], ◌∷◌
 ghost use Rattle.std.specs.Bool.{OnTrue, OnFalse};
 ghost use Rattle.std.specs.List.{flat_map};
 ghost use Rattle.rv_isa.specs.Words.{word_of};
+ghost use Rattle.rv_isa.specs.Stored.{words_in};
 
 use crate::compiled::Words;
 use crate::encoding::encode;
@@ -17,25 +18,38 @@ const FIRST_CAPACITY: usize = 64;
 /// words.
 #[derive(Drop)]
 pub struct WordBuffer {
-    words: Vec<u32>,
+    words: Vec<[u8; 4]>,
 }
 
 impl Model for WordBuffer {
     ghost use Rattle.std.specs.Prelude.{ℕ, List};
+    ghost use Rattle.rv_isa.specs.Stored.{words_in};
 
     ghost Value = { List ℕ };
 
-    ghost view = { λ b. b.words.items };
+    ghost view = { λ b. words_in b.words.items };
+}
+
+/// The bytes of instruction words.
+#[inline]
+fn stored<const N: usize>(words: &[u32; N]) -> [[u8; 4]; N]
+    ensures { words_in result ≡ words.now }
+{
+    let mut bytes = [[0; 4]; N];
+    for (slot, word) in bytes.iter_mut().zip(words) {
+        *slot = word.to_le_bytes();
+    }
+    bytes
 }
 
 /// Appends the instruction words of operations, or, if memory runs out, those of the first ones, and says whether
 /// all are there.
-fn encode_all(words: &mut Vec<u32>, ops: &[Op]) -> bool
-    ensures all { OnTrue result (words.new.items ≡ words.old.items ++ map word_of ops.now) }
+fn encode_all(words: &mut Vec<[u8; 4]>, ops: &[Op]) -> bool
+    ensures all { OnTrue result (words_in words.new.items ≡ words_in words.old.items ++ map word_of ops.now) }
     ensures some { OnFalse result (take (length words.old.items) words.new.items ≡ words.old.items) }
 {
     for op in ops {
-        if words.push(encode(*op)).is_err() {
+        if words.push(encode(*op).to_le_bytes()).is_err() {
             return false;
         }
     }
@@ -73,17 +87,17 @@ impl WordBuffer {
         ensures ok { OnOk result (self.new ≡ self.old ++ word ∷ []) }
         ensures err { OnErr result (self.new ≡ self.old) }
     {
-        self.words.push(word)?;
+        self.words.push(word.to_le_bytes())?;
         Ok(())
     }
 
     /// Appends some instruction words, or none of them.
     #[inline]
-    pub fn append(&mut self, words: &[u32]) -> Result<(), AllocError>
+    pub fn append<const N: usize>(&mut self, words: &[u32; N]) -> Result<(), AllocError>
         ensures ok { OnOk result (self.new ≡ self.old ++ words.now) }
         ensures err { OnErr result (self.new ≡ self.old) }
     {
-        self.words.extend_from_slice(words)
+        self.words.extend_from_slice(&stored(words))
     }
 
     /// Appends the instruction words of operations, one run after the other, or none of them.
@@ -102,19 +116,19 @@ impl WordBuffer {
     }
 
     /// Appends some instruction words, those of operations, and more words, or none of them.
-    pub fn append_around(
+    pub fn append_around<const N: usize, const M: usize>(
         &mut self,
-        front: &[u32],
+        front: &[u32; N],
         ops: &[Op],
-        back: &[u32],
+        back: &[u32; M],
     ) -> Result<(), AllocError>
         ensures ok { OnOk result (self.new ≡ self.old ++ (front.now ++ (map word_of ops.now ++ back.now))) }
         ensures err { OnErr result (self.new ≡ self.old) }
     {
         let start = self.words.len();
-        self.words.extend_from_slice(front)?;
+        self.words.extend_from_slice(&stored(front))?;
         let is_whole = encode_all(&mut self.words, ops)
-            && self.words.extend_from_slice(back).is_ok();
+            && self.words.extend_from_slice(&stored(back)).is_ok();
         if is_whole {
             return Ok(());
         }
@@ -135,20 +149,13 @@ impl WordBuffer {
         requires { place < length self.old }
         ensures { self.new ≡ slice_set self.old place word }
     {
-        self.words[place] = word;
-    }
-
-    /// The instruction words.
-    pub fn as_slice(&self) -> &[u32]
-        ensures { result.now ≡ self.now }
-    {
-        self.words.as_slice()
+        self.words[place] = word.to_le_bytes();
     }
 
     /// The instruction words, to be kept. It takes no memory.
     pub fn finish(self) -> Words
         ensures { result ≡ self }
     {
-        Words::from_vec(self.words)
+        Words { words: self.words }
     }
 }

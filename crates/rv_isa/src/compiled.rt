@@ -1,49 +1,162 @@
 //! The code of a function, before it has an offset in a text.
-ghost use Rattle.std.specs.Prelude.{◌≡◌, ◌↔◌, IsTrue};
+ghost use Rattle.std.specs.Prelude.{◌≡◌, ◌≤◌, ◌↔◌, [], ◌∷◌, ◌++◌, drop, length, slice_get, slice_set, IsTrue, IfOk, OnOk, OnErr};
+ghost use Rattle.std.specs.Int.{w32, to_le_bytes};
+ghost use Rattle.std.specs.List.{flat_map};
 
+use std::alloc::{AllocError, Global};
 use std::marker::Model;
 
-/// A list of instruction words, which contracts see as that list.
+/// A list of instruction words, each stored as its four bytes, the low one first (RISC-V Unprivileged Architecture, 1.5): so they are
+/// written as they stand. Contracts see the list of the words.
 #[derive(Debug, Drop)]
 pub struct Words {
-    words: Vec<u32>,
+    pub(crate) words: Vec<[u8; 4]>,
 }
 
 impl Model for Words {
     ghost use Rattle.std.specs.Prelude.{ℕ, List};
+    ghost use Rattle.rv_isa.specs.Stored.{words_in};
 
     ghost Value = { List ℕ };
 
-    ghost view = { λ w. w.words.items };
+    ghost view = { λ w. words_in w.words.items };
 }
 
 impl Words {
-    /// The instruction words of a `Vec`. It takes no memory.
-    pub fn from_vec(words: Vec<u32>) -> Self
-        ensures { result ≡ words.items }
+    /// No instruction words.
+    pub fn new(alloc: Global) -> Self
+        ensures { result ≡ [] }
     {
-        Words { words }
+        Words {
+            words: Vec::new(alloc),
+        }
     }
 
-    /// The instruction words as a `Vec`. It takes no memory.
-    pub fn into_vec(self) -> Vec<u32>
-        ensures { result.items ≡ self }
+    /// No instruction words, and room for so many. More may be appended.
+    pub fn with_capacity(alloc: Global, words: usize) -> Result<Self, AllocError>
+        ensures { IfOk result (λ w. w ≡ []) }
     {
-        self.words
+        Ok(Words {
+            words: Vec::with_capacity(alloc, words)?,
+        })
     }
 
-    /// The instruction words.
-    pub fn as_slice(&self) -> &[u32]
-        ensures { result.now ≡ self.now }
+    /// Appends an instruction word.
+    pub fn push(&mut self, word: u32) -> Result<(), AllocError>
+        ensures ok { OnOk result (self.new ≡ self.old ++ word ∷ []) }
+        ensures err { OnErr result (self.new ≡ self.old) }
     {
-        self.words.as_slice()
+        self.words.push(word.to_le_bytes())?;
+        Ok(())
+    }
+
+    /// The instruction words as numbers.
+    pub fn to_vec(&self, alloc: Global) -> Result<Vec<u32>, AllocError>
+        ensures { IfOk result (λ words. words.items ≡ self.now) }
+    {
+        let mut all = Vec::with_capacity(alloc, self.words.len())?;
+        for word in &self.words {
+            all.push(u32::from_le_bytes(*word))?;
+        }
+        Ok(all)
+    }
+
+    /// How many there are.
+    #[inline]
+    pub fn len(&self) -> usize
+        ensures { result ≡ length self.now }
+    {
+        self.words.len()
+    }
+
+    /// The instruction word of an index, if there is one.
+    pub fn get(&self, index: usize) -> Option<u32>
+        ensures { result ≡ slice_get self.now index }
+    {
+        match self.words.get(index) {
+            Some(word) => Some(u32::from_le_bytes(*word)),
+            None => None,
+        }
+    }
+
+    /// Their bytes, four for each, the low one first.
+    pub fn as_bytes(&self) -> &[u8]
+        ensures { result.now ≡ flat_map (to_le_bytes w32) self.now }
+    {
+        self.words.as_slice().as_flattened()
+    }
+
+    /// Replaces the instruction word of an index, if there is one.
+    pub fn set(&mut self, index: usize, word: u32)
+        ensures { self.new ≡ slice_set self.old index word }
+    {
+        if index < self.words.len() {
+            self.words[index] = word.to_le_bytes();
+        }
+    }
+
+    /// Appends other instruction words, or none of them.
+    pub fn append(&mut self, more: &Words) -> Result<(), AllocError>
+        ensures ok { OnOk result (self.new ≡ self.old ++ more.now) }
+        ensures err { OnErr result (self.new ≡ self.old) }
+    {
+        self.words.extend_from_slice(&more.words)
+    }
+
+    /// Appends other instruction words, from an index of theirs on, or none of them.
+    pub fn append_from(&mut self, more: &Words, index: usize) -> Result<(), AllocError>
+        requires { index ≤ length more.now }
+        ensures ok { OnOk result (self.new ≡ self.old ++ drop index more.now) }
+        ensures err { OnErr result (self.new ≡ self.old) }
+    {
+        self.words.extend_from_slice(&more.words[index..])
+    }
+
+    /// Appends other instruction words, or none of them. Where they are the more, memory is wanted for those before them alone.
+    pub fn append_own(&mut self, more: Words) -> Result<(), AllocError>
+        ensures ok { OnOk result (self.new ≡ self.old ++ more) }
+        ensures err { OnErr result (self.new ≡ self.old) }
+    {
+        let Words { words: mut more } = more;
+        let count = more.len();
+        if count <= self.words.len() {
+            return self.words.extend_from_slice(&more);
+        }
+        more.extend_from_slice(&self.words)?;
+        more.rotate_left(count);
+        self.words = more;
+        Ok(())
+    }
+
+    /// Replaces the first instruction words by others.
+    pub fn overwrite(&mut self, front: &Words)
+        requires { length front.now ≤ length self.old }
+        ensures { self.new ≡ front.now ++ drop (length front.now) self.old }
+    {
+        let count = front.words.len();
+        self.words[..count].copy_from_slice(&front.words);
+    }
+
+    /// Leaves so many instruction words: the first ones, and zeros behind them. Where memory runs out, all stay.
+    pub fn resize(&mut self, words: usize) -> Result<(), AllocError>
+        ensures ok { OnOk result (length self.new ≡ words) }
+        ensures err { OnErr result (self.new ≡ self.old) }
+    {
+        self.words.resize(words, [0; 4])
+    }
+
+    /// Gives back the room that they don't need. Where they can't be moved, since memory runs out, they stay where they are.
+    pub fn shrink_to_fit(&mut self)
+        ensures { self.new ≡ self.old }
+    {
+        self.words.shrink_to_fit();
     }
 
     /// Whether both are the same list.
     fn is_same(&self, other: &Words) -> bool
         ensures { IsTrue result ↔ (self.now ≡ other.now) }
     {
-        self.as_slice() == other.as_slice()
+        self.words.as_slice() == other.words.as_slice()
     }
 }
 

@@ -76,12 +76,11 @@ fn write_parts<O: Sink>(out: &mut O, piece: &mut Piece, fields: &ShortFields, im
     ensures { WritesText result (joined fields.now image.now) (O.written out.old) (O.written out.new) (O.faults out.old) (O.faults out.new) }
 {
     let front = fields.before_text.as_slice();
-    let words = image.text.as_slice();
     let middle = fields.before_places.as_slice();
     let places = image.places.as_slice();
     let count = fields.before_passive.as_slice();
     let passive = image.passive.as_slice();
-    if write_list(out, piece, front, words) {
+    if write_both(out, front, image.text.as_bytes()) {
         write_rest(out, piece, middle, places, count, passive)
     } else {
         false

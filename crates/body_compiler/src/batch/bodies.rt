@@ -58,7 +58,7 @@ fn store(alloc: Global, cells: &Cells, index: u32, code: Code) -> Result<Stored,
     requires index { index < length cells.now.names }
     ensures { IfOk result (λ s. Stores cells.now index s code) }
 {
-    let words = code.words.as_slice().len() as u64;
+    let words = code.words.len() as u64;
     match cells.take_room(words) {
         Ok(taken) => keep(alloc, cells, index, code, taken),
         Err(short) => Ok(Stored::NoRoom(words, short)),
