@@ -1,3 +1,4 @@
+pub mod Stored
 pub mod ByteLaws
 pub mod CodeLaws
 pub mod Formats

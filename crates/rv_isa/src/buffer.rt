@@ -3,7 +3,6 @@ ghost use Rattle.std.specs.Prelude.{◌≡◌, ◌<◌, ◌≤◌, [], ◌∷◌
 ghost use Rattle.std.specs.Bool.{OnTrue, OnFalse};
 ghost use Rattle.std.specs.List.{flat_map};
 ghost use Rattle.rv_isa.specs.Words.{word_of};
-ghost use Rattle.rv_isa.specs.Stored.{words_in};
 
 use crate::compiled::Words;
 use crate::encoding::encode;
@@ -18,38 +17,25 @@ const FIRST_CAPACITY: usize = 64;
 /// words.
 #[derive(Drop)]
 pub struct WordBuffer {
-    words: Vec<[u8; 4]>,
+    words: Words,
 }
 
 impl Model for WordBuffer {
     ghost use Rattle.std.specs.Prelude.{ℕ, List};
-    ghost use Rattle.rv_isa.specs.Stored.{words_in};
 
     ghost Value = { List ℕ };
 
-    ghost view = { λ b. words_in b.words.items };
-}
-
-/// The bytes of instruction words.
-#[inline]
-fn stored<const N: usize>(words: &[u32; N]) -> [[u8; 4]; N]
-    ensures { words_in result ≡ words.now }
-{
-    let mut bytes = [[0; 4]; N];
-    for (slot, word) in bytes.iter_mut().zip(words) {
-        *slot = word.to_le_bytes();
-    }
-    bytes
+    ghost view = { λ b. b.words };
 }
 
 /// Appends the instruction words of operations, or, if memory runs out, those of the first ones, and says whether
 /// all are there.
-fn encode_all(words: &mut Vec<[u8; 4]>, ops: &[Op]) -> bool
-    ensures all { OnTrue result (words_in words.new.items ≡ words_in words.old.items ++ map word_of ops.now) }
-    ensures some { OnFalse result (take (length words.old.items) words.new.items ≡ words.old.items) }
+fn encode_all(words: &mut Words, ops: &[Op]) -> bool
+    ensures all { OnTrue result (words.new ≡ words.old ++ map word_of ops.now) }
+    ensures some { OnFalse result (take (length words.old) words.new ≡ words.old) }
 {
     for op in ops {
-        if words.push(encode(*op).to_le_bytes()).is_err() {
+        if words.push(encode(*op)).is_err() {
             return false;
         }
     }
@@ -62,7 +48,7 @@ impl WordBuffer {
         ensures { IfOk result (λ b. b ≡ []) }
     {
         Ok(WordBuffer {
-            words: Vec::with_capacity(alloc, FIRST_CAPACITY)?,
+            words: Words::with_capacity(alloc, FIRST_CAPACITY)?,
         })
     }
 
@@ -71,7 +57,7 @@ impl WordBuffer {
         ensures { IfOk result (λ b. b ≡ []) }
     {
         Ok(WordBuffer {
-            words: Vec::with_capacity(alloc, words)?,
+            words: Words::with_capacity(alloc, words)?,
         })
     }
 
@@ -87,8 +73,7 @@ impl WordBuffer {
         ensures ok { OnOk result (self.new ≡ self.old ++ word ∷ []) }
         ensures err { OnErr result (self.new ≡ self.old) }
     {
-        self.words.push(word.to_le_bytes())?;
-        Ok(())
+        self.words.push(word)
     }
 
     /// Appends some instruction words, or none of them.
@@ -97,7 +82,7 @@ impl WordBuffer {
         ensures ok { OnOk result (self.new ≡ self.old ++ words.now) }
         ensures err { OnErr result (self.new ≡ self.old) }
     {
-        self.words.extend_from_slice(&stored(words))
+        self.words.append_array(words)
     }
 
     /// Appends the instruction words of operations, one run after the other, or none of them.
@@ -126,9 +111,8 @@ impl WordBuffer {
         ensures err { OnErr result (self.new ≡ self.old) }
     {
         let start = self.words.len();
-        self.words.extend_from_slice(&stored(front))?;
-        let is_whole = encode_all(&mut self.words, ops)
-            && self.words.extend_from_slice(&stored(back)).is_ok();
+        self.words.append_array(front)?;
+        let is_whole = encode_all(&mut self.words, ops) && self.words.append_array(back).is_ok();
         if is_whole {
             return Ok(());
         }
@@ -149,13 +133,13 @@ impl WordBuffer {
         requires { place < length self.old }
         ensures { self.new ≡ slice_set self.old place word }
     {
-        self.words[place] = word.to_le_bytes();
+        self.words.set(place, word);
     }
 
     /// The instruction words, to be kept. It takes no memory.
     pub fn finish(self) -> Words
         ensures { result ≡ self }
     {
-        Words { words: self.words }
+        self.words
     }
 }

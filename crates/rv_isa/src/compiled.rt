@@ -1,7 +1,7 @@
 //! The code of a function, before it has an offset in a text.
-ghost use Rattle.std.specs.Prelude.{◌≡◌, ◌≤◌, ◌↔◌, [], ◌∷◌, ◌++◌, drop, length, slice_get, slice_set, IsTrue, IfOk, OnOk, OnErr};
+ghost use Rattle.std.specs.Prelude.{◌≡◌, ◌<◌, ◌^◌, ◌≤◌, ◌↔◌, [], ◌∷◌, ◌++◌, take, drop, map, length, slice_get, slice_set, IsTrue, IfOk, OnOk, OnErr};
 ghost use Rattle.std.specs.Int.{w32, to_le_bytes};
-ghost use Rattle.std.specs.List.{flat_map};
+ghost use Rattle.std.specs.List.{All, flat_map};
 
 use std::alloc::{AllocError, Global};
 use std::marker::Model;
@@ -10,16 +10,39 @@ use std::marker::Model;
 /// written as they stand. Contracts see the list of the words.
 #[derive(Debug, Drop)]
 pub struct Words {
-    pub(crate) words: Vec<[u8; 4]>,
+    words: Vec<[u8; 4]>,
 }
 
 impl Model for Words {
     ghost use Rattle.std.specs.Prelude.{ℕ, List};
-    ghost use Rattle.rv_isa.specs.Stored.{words_in};
+    ghost use Rattle.rv_isa.specs.Stored.{words_in, AreStored};
 
     ghost Value = { List ℕ };
 
     ghost view = { λ w. words_in w.words.items };
+
+    ghost invariant = { λ w. AreStored w.words.items };
+}
+
+/// How instruction words are stored.
+#[inline]
+fn stored<const N: usize>(words: &[u32]) -> [[u8; 4]; N]
+    requires { length words.now ≡ N }
+    ensures stored { result ≡ map (to_le_bytes w32) words.now }
+    ensures small { All (λ word. word < 2 ^ 32) words.now }
+{
+    let mut bytes = [[0; 4]; N];
+    for index in 0..N {
+        bytes[index] = words[index].to_le_bytes();
+    }
+    bytes
+}
+
+/// Whether both are the same list.
+fn are_same(bytes: &[u8], others: &[u8]) -> bool
+    ensures { IsTrue result ↔ (bytes.now ≡ others.now) }
+{
+    bytes == others
 }
 
 impl Words {
@@ -81,7 +104,8 @@ impl Words {
 
     /// Their bytes, four for each, the low one first.
     pub fn as_bytes(&self) -> &[u8]
-        ensures { result.now ≡ flat_map (to_le_bytes w32) self.now }
+        ensures bytes { result.now ≡ flat_map (to_le_bytes w32) self.now }
+        ensures small { All (λ word. word < 2 ^ 32) self.now }
     {
         self.words.as_slice().as_flattened()
     }
@@ -93,6 +117,26 @@ impl Words {
         if index < self.words.len() {
             self.words[index] = word.to_le_bytes();
         }
+    }
+
+    /// Appends the instruction words of an array, or none of them.
+    #[inline]
+    pub(crate) fn append_array<const N: usize>(
+        &mut self,
+        words: &[u32; N],
+    ) -> Result<(), AllocError>
+        ensures ok { OnOk result (self.new ≡ self.old ++ words.now) }
+        ensures err { OnErr result (self.new ≡ self.old) }
+    {
+        self.words.extend_from_slice(&stored::<N>(words))
+    }
+
+    /// Keeps the first instruction words, so many, and drops those after them.
+    pub(crate) fn truncate(&mut self, words: usize)
+        requires { words ≤ length self.old }
+        ensures { self.new ≡ take words self.old }
+    {
+        self.words.truncate(words);
     }
 
     /// Appends other instruction words, or none of them.
@@ -133,8 +177,9 @@ impl Words {
         requires { length front.now ≤ length self.old }
         ensures { self.new ≡ front.now ++ drop (length front.now) self.old }
     {
-        let count = front.words.len();
-        self.words[..count].copy_from_slice(&front.words);
+        for (index, word) in front.words.iter().enumerate() {
+            self.words[index] = *word;
+        }
     }
 
     /// Leaves so many instruction words: the first ones, and zeros behind them. Where memory runs out, all stay.
@@ -156,7 +201,7 @@ impl Words {
     fn is_same(&self, other: &Words) -> bool
         ensures { IsTrue result ↔ (self.now ≡ other.now) }
     {
-        self.words.as_slice() == other.words.as_slice()
+        are_same(self.as_bytes(), other.as_bytes())
     }
 }
 

@@ -17,4 +17,4 @@ pub returns-then-not-encode_all-clause-err : goal.returns-then-not-encode_all-cl
 returns-then-not-encode_all-clause-err c =
     let more = map word_of (flat_map (λ run. run.now) (take c.loop-run.run-index c.args.runs.now)) in
     let kept = rw c.loop-run.invariant.words at c.if-not-encode_all.ensures.some in
-    rw (c.truncate.ensures.items, c.loop-run.invariant.before) (front c.args.self.now more c.encode_all.new.words.items kept)
+    rw (c.truncate.ensures, c.loop-run.invariant.before) (front c.args.self.now more c.encode_all.new.words kept)

@@ -5,6 +5,6 @@ use Rattle.rv_isa.proofs.buffer.WordBuffer.append_ops.Given as goal
 
 abbrev pub invariant-loop-run : goal.invariant-loop-run
 invariant-loop-run l = record {
-  words : l.self-inside.words.items ≡ l.fn.self ++ map word_of (flat_map (λ run. run.now) (take l.run-index l.runs));
+  words : l.self-inside.words ≡ l.fn.self ++ map word_of (flat_map (λ run. run.now) (take l.run-index l.runs));
   before : l.before ≡ length l.fn.self;
 }
