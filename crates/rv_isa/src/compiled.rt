@@ -92,6 +92,14 @@ impl Words {
         self.words.len()
     }
 
+    /// Each of them has 32 bits.
+    #[inline]
+    pub fn keeps_bounds(&self)
+        ensures { All (λ word. word < 2 ^ 32) self.now }
+    {
+        let _words = &self.words;
+    }
+
     /// The instruction word of an index, if there is one.
     pub fn get(&self, index: usize) -> Option<u32>
         ensures { result ≡ slice_get self.now index }
@@ -104,8 +112,7 @@ impl Words {
 
     /// Their bytes, four for each, the low one first.
     pub fn as_bytes(&self) -> &[u8]
-        ensures bytes { result.now ≡ flat_map (to_le_bytes w32) self.now }
-        ensures small { All (λ word. word < 2 ^ 32) self.now }
+        ensures { result.now ≡ flat_map (to_le_bytes w32) self.now }
     {
         self.words.as_slice().as_flattened()
     }
@@ -201,6 +208,8 @@ impl Words {
     fn is_same(&self, other: &Words) -> bool
         ensures { IsTrue result ↔ (self.now ≡ other.now) }
     {
+        self.keeps_bounds();
+        other.keeps_bounds();
         are_same(self.as_bytes(), other.as_bytes())
     }
 }
