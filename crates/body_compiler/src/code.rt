@@ -113,7 +113,7 @@ fn take_checked(
 {
     match note_token(
         &mut draft.sites,
-        draft.function.word_count(),
+        draft.function.words(),
         step.live,
         at,
         token,

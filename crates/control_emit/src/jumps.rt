@@ -27,7 +27,7 @@ pub fn place_in(buffer: &WordBuffer) -> usize
     ensures is { result ≡ length buffer.now }
     ensures small { result < 2 ^ 62 }
 {
-    buffer.place()
+    buffer.len()
 }
 
 /// Appends the instruction words that move a value from one operand's slot to another's.

@@ -3,7 +3,7 @@
 ghost use Rattle.std.specs.Prelude.{◌≡◌, ◌+◌, [], ◌∷◌, ◌++◌, map, length, OnOk};
 ghost use Rattle.frame_layout.specs.Traps.{division_places, bulk_places, trap_places, site_at};
 
-use rv_isa::TrapSite;
+use rv_isa::{TrapSite, WordBuffer};
 use std::alloc::AllocError;
 use wasm_defs::{BinaryOp, BulkOp, Operation, Plain, ValType};
 
@@ -20,13 +20,14 @@ fn note(sites: &mut Vec<TrapSite>, place: usize, offset: u64) -> Result<(), Allo
 #[inline(always)]
 fn note_division(
     sites: &mut Vec<TrapSite>,
-    here: usize,
+    words: &WordBuffer,
     offset: u64,
     ty: ValType,
     op: BinaryOp,
 ) -> Result<(), AllocError>
-    ensures { OnOk result (sites.new.items ≡ sites.old.items ++ map (site_at here offset) (division_places ty op)) }
+    ensures { OnOk result (sites.new.items ≡ sites.old.items ++ map (site_at (length words.now) offset) (division_places ty op)) }
 {
+    let here = words.len();
     match op {
         BinaryOp::DivS => {
             let overflow = match ty {
@@ -45,12 +46,13 @@ fn note_division(
 #[inline(never)]
 fn note_bulk(
     sites: &mut Vec<TrapSite>,
-    here: usize,
+    words: &WordBuffer,
     offset: u64,
     op: BulkOp,
 ) -> Result<(), AllocError>
-    ensures { OnOk result (sites.new.items ≡ sites.old.items ++ map (site_at here offset) (bulk_places op)) }
+    ensures { OnOk result (sites.new.items ≡ sites.old.items ++ map (site_at (length words.now) offset) (bulk_places op)) }
 {
+    let here = words.len();
     match op {
         BulkOp::Fill => note(sites, here + 14, offset),
         BulkOp::Copy => {
@@ -64,17 +66,18 @@ fn note_bulk(
     }
 }
 
-/// Notes the traps of an instruction at a reachable point, whose instruction words follow so many: the index of each one's ECALL, and
+/// Notes the traps of an instruction at a reachable point, whose instruction words follow these: the index of each one's ECALL, and
 /// the offset of the instruction in the module. It is inlined where the instruction is known: most have no trap.
 #[inline(always)]
 pub fn note_traps(
     sites: &mut Vec<TrapSite>,
-    here: usize,
+    words: &WordBuffer,
     offset: u64,
     plain: &Plain,
 ) -> Result<(), AllocError>
-    ensures { OnOk result (sites.new.items ≡ sites.old.items ++ map (site_at here offset) (trap_places plain.now)) }
+    ensures { OnOk result (sites.new.items ≡ sites.old.items ++ map (site_at (length words.now) offset) (trap_places plain.now)) }
 {
+    let here = words.len();
     match plain {
         Plain::Unreachable => note(sites, here + 2, offset),
         Plain::Load(_, _) | Plain::Store(_, _) => note(sites, here + 15, offset),
@@ -83,8 +86,8 @@ pub fn note_traps(
             note(sites, here + 20, offset)?;
             note(sites, here + 30, offset)
         }
-        Plain::Bulk(op) => note_bulk(sites, here, offset, *op),
-        Plain::Numeric(Operation::Binary(ty, op)) => note_division(sites, here, offset, *ty, *op),
+        Plain::Bulk(op) => note_bulk(sites, words, offset, *op),
+        Plain::Numeric(Operation::Binary(ty, op)) => note_division(sites, words, offset, *ty, *op),
         _ => Ok(()),
     }
 }

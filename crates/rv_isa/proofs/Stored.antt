@@ -1,5 +1,5 @@
 -- Instruction words that are stored as bytes.
-use Rattle.std.proofs.Common.{◌≡◌, ◌∙◌, ◌<◌, ◌+◌, ◌^◌, Bool, true, false, if◌then◌else◌, subst, slice_index_or, ℕ, zero, suc, List, [], ◌∷◌, ◌++◌, map, take, drop, length, replicate, Result, Ok, Err, is_ok, refl, sym, ap, arith}
+use Rattle.std.proofs.Common.{◌≡◌, ◌∙◌, ◌<◌, ◌^◌, Bool, true, false, if◌then◌else◌, subst, slice_index_or, ℕ, zero, suc, List, [], ◌∷◌, ◌++◌, map, take, drop, length, replicate, Result, Ok, Err, is_ok, refl, sym, ap, arith}
 use Rattle.std.specs.Prelude.{slice_set, OnOk}
 use Rattle.std.specs.declared.alloc.AllocError.{AllocError}
 use Rattle.std.specs.Int.{w32, to_le_bytes, from_le_bytes}

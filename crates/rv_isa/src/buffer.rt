@@ -1,5 +1,5 @@
 //! A growing list of instruction words.
-ghost use Rattle.std.specs.Prelude.{◌≡◌, ◌<◌, ◌≤◌, [], ◌∷◌, ◌++◌, map, take, length, slice_set, ℕ, IfOk, OnOk, OnErr};
+ghost use Rattle.std.specs.Prelude.{◌≡◌, ◌<◌, ◌^◌, ◌≤◌, [], ◌∷◌, ◌++◌, map, take, length, slice_set, ℕ, IfOk, OnOk, OnErr};
 ghost use Rattle.std.specs.Bool.{OnTrue, OnFalse};
 ghost use Rattle.std.specs.List.{flat_map};
 ghost use Rattle.rv_isa.specs.Words.{word_of};
@@ -65,6 +65,15 @@ impl WordBuffer {
     pub fn place(&self) -> usize
         ensures { result ≡ length self.now }
     {
+        self.words.len()
+    }
+
+    /// How many instruction words there are.
+    pub fn len(&self) -> usize
+        ensures is { result ≡ length self.now }
+        ensures small { result < 2 ^ 62 }
+    {
+        self.words.keeps_bounds();
         self.words.len()
     }
 

@@ -92,12 +92,13 @@ impl Words {
         self.words.len()
     }
 
-    /// Each of them has 32 bits.
+    /// Each of them has 32 bits, and there are no more than memory can hold.
     #[inline]
     pub fn keeps_bounds(&self)
-        ensures { All (λ word. word < 2 ^ 32) self.now }
+        ensures small { All (λ word. word < 2 ^ 32) self.now }
+        ensures few { length self.now < 2 ^ 62 }
     {
-        let _words = &self.words;
+        let _words = self.words.as_slice();
     }
 
     /// The instruction word of an index, if there is one.

@@ -32,7 +32,7 @@ pub fn emit_call(
     ensures relocation { IfOk result (λ r. r ≡ record { place = length buffer.old + 6; function = function }) }
     ensures err { OnErr result (buffer.new ≡ buffer.old) }
 {
-    let place = buffer.place() + WORDS_BEFORE;
+    let place = buffer.len() + WORDS_BEFORE;
     let slots = layout.operand(height - arguments);
     let [a, b, c, d, e, f] = shift(slots);
     let [upper, lower] = call(0);
