@@ -7,11 +7,11 @@ pub invariant_of-self-then-is_empty : goal.invariant_of-self-then-is_empty
 invariant_of-self-then-is_empty c =
     let i = c.self.inside in
     let none = eqb-true _ _ (sym c.is_empty.ensures ∙ c.if-is_empty.true) in
-    begun i.text.items c.resize.new.self.items i.calls.items i.sites.items i.begin i.ends.items c.args.words (omega (arith, none, i.ends.ok.0))
-    (omega (arith, c.in_ok-resize.ensures.len, c.resize.new.self.ok.0)) c.self.invariant
+    begun i.text c.resize.new.self i.calls.items i.sites.items i.begin i.ends.items c.args.words (omega (arith, none, i.ends.ok.0))
+    c.in_ok-resize.ensures.ok c.self.invariant
 
 pub returns-in_ok-resize : goal.returns-in_ok-resize
 returns-in_ok-resize c =
     let i = c.self.inside in
     let none = eqb-true _ _ (sym c.is_empty.ensures ∙ c.if-is_empty.true) in
-    begun_view i.text.items c.resize.new.self.items i.calls.items i.sites.items i.begin _ i.ends.items (omega (arith, none, i.ends.ok.0)) ∙ c.self.view_is
+    begun_view i.text c.resize.new.self i.calls.items i.sites.items i.begin _ i.ends.items (omega (arith, none, i.ends.ok.0)) ∙ c.self.view_is

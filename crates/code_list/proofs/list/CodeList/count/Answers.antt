@@ -6,4 +6,4 @@ use Rattle.code_list.proofs.list.CodeList.count.Goals as goal
 pub returns : goal.returns
 returns c =
     let i = c.self.inside in
-    omega (arith, c.len.ensures, i.ends.ok.0, count i.text.items i.calls.items i.sites.items i.begin i.ends.items, ap (λ (l : List Code). length l) c.self.view_is)
+    omega (arith, c.len.ensures, i.ends.ok.0, count i.text i.calls.items i.sites.items i.begin i.ends.items, ap (λ (l : List Code). length l) c.self.view_is)
