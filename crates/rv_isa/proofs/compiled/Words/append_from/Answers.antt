@@ -1,4 +1,4 @@
-use Rattle.std.proofs.Common.{◌∙◌, ◌++◌, ◌-◌, ℕ, List, length, drop, sym, subst, ap, arith, length-drop}
+use Rattle.std.proofs.Common.{◌∙◌, ◌-◌, ℕ, List, length, drop, sym, subst, ap, arith, length-drop}
 use Rattle.std.proofs.lemmas.List.{take_all}
 use Rattle.rv_isa.specs.Stored.{AreStored, words_in}
 use Rattle.rv_isa.proofs.Stored.{appended, appended_words, dropped, taken, words_dropped}

@@ -1,4 +1,4 @@
-use Rattle.std.proofs.Common.{ℕ, List, [], ◌∷◌, sym, subst, arith}
+use Rattle.std.proofs.Common.{ℕ, List, [], ◌∷◌, sym, subst}
 use Rattle.rv_isa.specs.Stored.{AreStored}
 use Rattle.rv_isa.proofs.Stored.{appended, made, one_fits}
 use Rattle.rv_isa.proofs.compiled.Words.push.Goals as goal

@@ -1,5 +1,3 @@
-use Rattle.std.proofs.Common.{sym, subst}
-use Rattle.rv_isa.specs.Stored.{AreStored}
 use Rattle.rv_isa.proofs.Stored.{resized}
 use Rattle.rv_isa.proofs.compiled.Words.resize.Goals as goal
 

@@ -1,4 +1,4 @@
-use Rattle.std.proofs.Common.{◌∙◌, ℕ, List, sym, subst, ap, arith}
+use Rattle.std.proofs.Common.{◌∙◌, ℕ, List, sym, subst, ap}
 use Rattle.std.specs.Prelude.{slice_set}
 use Rattle.rv_isa.specs.Stored.{AreStored, words_in}
 use Rattle.rv_isa.proofs.Stored.{replaced, words_replaced}
