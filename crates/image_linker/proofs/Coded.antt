@@ -16,8 +16,8 @@ pub record WordsAt (codes : List Code) (i count : ℕ) : Type 0 where
   pub next : length (words_of (take (i + 1) codes)) ≡ length (words_of (take i codes)) + count
   pub within : length (words_of (take (i + 1) codes)) ≤ length (words_of codes)
 
-pub words_at : (codes : List Code) (i : ℕ) (words : List ℕ) → i < length codes → words ≡ (code_at codes i).words → WordsAt codes i (length words)
-words_at codes i words lt are = record {
-  next = omega (arith, ap length (words_taken codes i (code_at codes i) lt (is_at codes i lt)), length-append (words_of (take i codes)) (code_at codes i).words, ap (λ (l : List ℕ). length l) are);
+pub words_at : (codes : List Code) (i count : ℕ) → i < length codes → count ≡ length (code_at codes i).words → WordsAt codes i count
+words_at codes i count lt are = record {
+  next = omega (arith, ap length (words_taken codes i (code_at codes i) lt (is_at codes i lt)), length-append (words_of (take i codes)) (code_at codes i).words, are);
   within = words_within codes (i + 1);
 }

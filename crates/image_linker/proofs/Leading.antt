@@ -1,19 +1,32 @@
 -- Calls that are led to their functions.
-use Rattle.std.proofs.Common.{◌≡◌, ◌≤◌, ◌<◌, ℕ, zero, suc, ◌+◌, List, [], ◌∷◌, ◌++◌, take, length, refl, sym, ap, ◌∙◌, arith, append_assoc, length-append}
+use Rattle.std.proofs.Common.{◌≡◌, ◌≤◌, ◌<◌, ℕ, zero, suc, ◌+◌, List, [], ◌∷◌, ◌++◌, take, drop, length, refl, sym, ap, ◌∙◌, arith, append_assoc, length-append}
 use Rattle.std.specs.Prelude.{slice_set, slice_index_or}
+use Rattle.std.specs.List.{between}
 use Rattle.std.proofs.lemmas.List.{append-nil, length-set}
+use Rattle.rv_isa.specs.Words.{word_of}
+use Rattle.rv_isa.specs.Runs.{hi, lo}
+use Rattle.rv_isa.specs.declared.operations.Op.TheVariants.{Auipc, Jalr}
 use Rattle.rv_isa.specs.declared.compiled.Relocation.{Relocation}
 use Rattle.rv_isa.specs.declared.compiled.Code.{Code}
+use Rattle.frame_layout.specs.Macros.{ra}
 use Rattle.frame_layout.specs.Functions.{with_distance, with_distances}
 use Rattle.image_linker.specs.ImageOf.{distances}
-use Rattle.image_linker.specs.Linking.{words_of, words_at, words_from}
+use Rattle.image_linker.specs.Linking.{changed, words_of, words_at, words_from}
+use Rattle.image_linker.proofs.Changes.{changed_twice, changed_length}
 
 -- ---- one call
 
-beyond : (words : List ℕ) (place word : ℕ) → length words ≤ place → slice_set words place word ≡ words
-beyond [] place word h = refl
-beyond (x ∷ words) zero word h = absurd (omega arith)
-beyond (x ∷ words) (suc place) word h = ap (λ (l : List ℕ). x ∷ l) (beyond words place word (omega arith))
+-- two words are replaced, one after the other
+pub lead_words : (begin end : ℕ) (text middle new : List ℕ) (distance place upper lower : ℕ) → begin ≤ end → end ≤ length text
+    → upper ≡ word_of (Auipc ra (hi distance)) → lower ≡ word_of (Jalr ra ra (lo distance))
+    → middle ≡ changed begin end (λ code. slice_set code place upper) text → new ≡ changed begin end (λ code. slice_set code (place + 1) lower) middle
+    → new ≡ changed begin end (with_distance distance place) text
+lead_words begin end text middle new distance place upper lower rises within is_upper is_lower one two =
+    two
+    ∙ ap (changed begin end (λ code. slice_set code (place + 1) lower)) one
+    ∙ changed_twice begin end text rises within (λ code. slice_set code place upper) (length-set (between begin end text) place upper) (λ code. slice_set code (place + 1) lower)
+    ∙ ap (λ (word : ℕ). changed begin end (λ code. slice_set (slice_set code place word) (place + 1) lower) text) is_upper
+    ∙ ap (λ (word : ℕ). changed begin end (λ code. slice_set (slice_set code place (word_of (Auipc ra (hi distance)))) (place + 1) word) text) is_lower
 
 -- ---- the calls of a code
 
@@ -29,16 +42,25 @@ lead_suc d [] i words lt = absurd (omega arith)
 lead_suc d (x ∷ rs) zero words lt = refl
 lead_suc d (x ∷ rs) (suc i) words lt = lead_suc d rs i (led d x words) (omega arith)
 
-pub lead_taken : (d : ℕ → ℕ → ℕ) (rs : List Relocation) (i : ℕ) (old new words : List ℕ) → i < length rs
-    → new ≡ with_distance (d (slice_index_or rs i (record { place = 0; function = 0 })).place (slice_index_or rs i (record { place = 0; function = 0 })).function) (slice_index_or rs i (record { place = 0; function = 0 })).place old
-    → old ≡ with_distances d (take i rs) words → new ≡ with_distances d (take (i + 1) rs) words
-lead_taken d rs i old new words lt is before =
-    let k : suc i ≡ i + 1 = omega arith in
-    is ∙ ap (led d (call_at rs i)) before ∙ sym (lead_suc d rs i words lt) ∙ ap (λ (n : ℕ). with_distances d (take n rs) words) k
-
 pub length-lead : (d : ℕ → ℕ → ℕ) (rs : List Relocation) (words : List ℕ) → length (with_distances d rs words) ≡ length words
 length-lead d [] words = refl
 length-lead d (r ∷ rs) words = length-lead d rs (with_distance (d r.place r.function) r.place words) ∙ length-set _ _ _ ∙ length-set _ _ _
+
+-- in a text that has the code from one index up to another
+pub lead_taken : (begin end : ℕ) (text old new : List ℕ) (d : ℕ → ℕ → ℕ) (rs : List Relocation) (i : ℕ) → begin ≤ end → end ≤ length text → i < length rs
+    → new ≡ changed begin end (λ code. with_distance (d (slice_index_or rs i (record { place = 0; function = 0 })).place (slice_index_or rs i (record { place = 0; function = 0 })).function) (slice_index_or rs i (record { place = 0; function = 0 })).place code) old
+    → old ≡ changed begin end (with_distances d (take i rs)) text → new ≡ changed begin end (with_distances d (take (i + 1) rs)) text
+lead_taken begin end text old new d rs i rises within lt is before =
+    let k : suc i ≡ i + 1 = omega arith in
+    is
+    ∙ ap (changed begin end (led d (call_at rs i))) before
+    ∙ changed_twice begin end text rises within (with_distances d (take i rs)) (length-lead d (take i rs) (between begin end text)) (led d (call_at rs i))
+    ∙ ap (λ (l : List ℕ). take begin text ++ (l ++ drop end text)) (sym (lead_suc d rs i (between begin end text) lt))
+    ∙ ap (λ (n : ℕ). changed begin end (with_distances d (take n rs)) text) k
+
+-- the text has as many words
+pub length-led : (begin end : ℕ) (text : List ℕ) (d : ℕ → ℕ → ℕ) (rs : List Relocation) → begin ≤ end → end ≤ length text → length (changed begin end (with_distances d rs) text) ≡ length text
+length-led begin end text d rs rises within = changed_length begin end text rises within (with_distances d rs) (length-lead d rs (between begin end text))
 
 -- ---- all codes
 

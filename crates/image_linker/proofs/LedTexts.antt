@@ -1,8 +1,8 @@
 -- A text whose codes' calls are led to their functions one after the other, in place.
-use Rattle.std.proofs.Common.{◌≡◌, ◌≤◌, ◌<◌, ℕ, ◌+◌, ◌-◌, List, [], ◌∷◌, ◌++◌, take, drop, length, refl, sym, ap, ◌∙◌, subst, arith, append_assoc, length-append, length-drop}
+use Rattle.std.proofs.Common.{◌≡◌, ◌≤◌, ◌<◌, ℕ, ◌+◌, ◌-◌, List, [], ◌∷◌, ◌++◌, take, drop, length, refl, sym, ap, ◌∙◌, subst, arith, append_assoc}
 use Rattle.std.specs.Prelude.{slice_index_or}
 use Rattle.std.specs.List.{between}
-use Rattle.std.proofs.lemmas.List.{append-nil, take_at, take_all, drop_at, drop_all, drop_more, drop-drop, length-take-le}
+use Rattle.std.proofs.lemmas.List.{append-nil, take_all, drop_at, drop_all, drop_more, drop-drop, length-take-le}
 use Rattle.std.proofs.lemmas.List.Edits.{length-between}
 use Rattle.rv_isa.specs.declared.compiled.Code.{Code}
 use Rattle.rv_isa.specs.declared.compiled.Relocation.{Relocation}
@@ -12,8 +12,9 @@ use Rattle.code_list.specs.CodeLists.{code_between, codes_from, Rises, AreEnds}
 use Rattle.code_list.proofs.Ends.{Within, within}
 use Rattle.frame_layout.specs.Functions.{with_distances}
 use Rattle.image_linker.specs.ImageOf.{distances}
-use Rattle.image_linker.specs.Linking.{words_from, led_text}
-use Rattle.image_linker.proofs.Leading.{length-lead}
+use Rattle.image_linker.specs.Linking.{changed, words_from, led_text}
+use Rattle.image_linker.proofs.Changes.{changed_front, changed_behind}
+use Rattle.image_linker.proofs.Leading.{length-lead, length-led}
 
 abbrev pub end_at : List CodeEnd → ℕ → CodeEnd
 end_at ends i = slice_index_or ends i (record { words = 0; calls = 0; sites = 0; need = 0 })
@@ -50,47 +51,31 @@ module _ (calls : List Relocation) (sites : List TrapSite) where
       ap (λ (l : List ℕ). code_of (take (end.words - begin.words) l) begin end ∷ codes_from next calls sites end ends) (behind text next from begin.words same le)
       ∙ ap (λ (l : List Code). code_between text calls sites begin end ∷ l) (codes_behind text next from all most n end ends same (omega (arith, le, are.0.words)) are.1)
 
-module _ (places : List ℕ) (calls : List Relocation) (text next : List ℕ) (here : ℕ) (begin end : CodeEnd) (rises : begin.words ≤ end.words) (within : end.words ≤ length text) (is : next ≡ take begin.words text ++ (with_distances (distances places here) (between begin.calls end.calls calls) (between begin.words end.words text) ++ drop end.words text)) where
-  abbrev own : List ℕ
-  own = between begin.words end.words text
+module _ (places : List ℕ) (calls : List Relocation) (text next : List ℕ) (here : ℕ) (begin end : CodeEnd) (rises : begin.words ≤ end.words) (within : end.words ≤ length text) (is : next ≡ changed begin.words end.words (with_distances (distances places here) (between begin.calls end.calls calls)) text) where
+  abbrev led : List ℕ → List ℕ
+  led code = with_distances (distances places here) (between begin.calls end.calls calls) code
 
-  abbrev led : List ℕ
-  led = with_distances (distances places here) (between begin.calls end.calls calls) (between begin.words end.words text)
-
-  abbrev front : List ℕ
-  front = take begin.words text ++ with_distances (distances places here) (between begin.calls end.calls calls) (between begin.words end.words text)
-
-  parted : next ≡ front ++ drop end.words text
-  parted = is ∙ sym (append_assoc (take begin.words text) led (drop end.words text))
-
-  size : length front ≡ end.words
-  size =
-      omega (
-        arith,
-        rises,
-        within,
-        length-append (take begin.words text) led,
-        length-take-le begin.words text (omega (arith, rises, within)),
-        length-lead (distances places here) (between begin.calls end.calls calls) own,
-        length-between text begin.words end.words within,
-      )
+  keeps : length (with_distances (distances places here) (between begin.calls end.calls calls) (between begin.words end.words text)) ≡ length (between begin.words end.words text)
+  keeps = length-lead (distances places here) (between begin.calls end.calls calls) (between begin.words end.words text)
 
   -- the text has as many words
   pub led_length : length next ≡ length text
-  led_length = ap length parted ∙ omega (arith, within, size, length-append front (drop end.words text), length-drop end.words text)
+  led_length = ap length is ∙ length-led begin.words end.words text (distances places here) (between begin.calls end.calls calls) rises within
 
   -- one code led, and those behind it to be led, are all led
   pub led_more : (sites : List TrapSite) (all most n : ℕ) (ends : List CodeEnd) → AreEnds all most n end ends
       → led_text places calls sites next (here + (end.words - begin.words)) end ends ≡ led_text places calls sites text here begin (end ∷ ends)
   led_more sites all most n ends are =
-      let taken : take end.words next ≡ front = ap (take end.words) parted ∙ take_at front (drop end.words text) end.words size in
-      let left : drop end.words next ≡ drop end.words text = ap (drop end.words) parted ∙ drop_at front (drop end.words text) end.words size in
+      let own = between begin.words end.words text in
+      let front = take begin.words text ++ led own in
+      let taken : take end.words next ≡ front = ap (take end.words) is ∙ changed_front begin.words end.words text rises within led keeps in
+      let left : drop end.words next ≡ drop end.words text = ap (drop end.words) is ∙ changed_behind begin.words end.words text rises within led keeps in
       let codes = codes_behind calls sites text next end.words all most n end ends left (omega arith) are in
       let moved : here + (end.words - begin.words) ≡ here + length own = omega (arith, length-between text begin.words end.words within) in
       ap (λ (l : List ℕ). l ++ words_from places (here + (end.words - begin.words)) (codes_from next calls sites end ends)) taken
       ∙ ap (λ (l : List Code). front ++ words_from places (here + (end.words - begin.words)) l) codes
       ∙ ap (λ (k : ℕ). front ++ words_from places k (codes_from text calls sites end ends)) moved
-      ∙ append_assoc (take begin.words text) led (words_from places (here + length own) (codes_from text calls sites end ends))
+      ∙ append_assoc (take begin.words text) (led own) (words_from places (here + length own) (codes_from text calls sites end ends))
 
 -- and where one is the next of those that are left
 pub led_next : (places : List ℕ) (calls : List Relocation) (sites : List TrapSite) (text : List ℕ) (here : ℕ) (begin : CodeEnd) (ends : List CodeEnd) (i : ℕ) → i < length ends
@@ -104,12 +89,6 @@ led_all places calls sites text here most n begin ends i over are =
     let none = drop_all i ends over in
     let last = subst (AreEnds (length text) most n begin) none are in
     sym (ap (led_text places calls sites text here begin) none ∙ append-nil (take begin.words text) ∙ take_all begin.words text (omega (arith, last.words)))
-
--- what a call of a slice leaves in a text of so many words
-pub led_whole : (all given new : List ℕ) (n : ℕ) → given ≡ all → length new ≡ length given → n ≡ length all → take n (new ++ drop (length new) all) ≡ new
-led_whole all given new n same long size =
-    let less : length new ≡ length all = long ∙ ap length same in
-    ap (λ (l : List ℕ). take n (new ++ l)) (drop_all (length new) all (omega (arith, less))) ∙ ap (take n) (append-nil new) ∙ take_all n new (omega (arith, less, size))
 
 -- behind the words before the first code
 pub led_behind : (places : List ℕ) (here : ℕ) (text whole : List ℕ) (codes : List Code) (begin : ℕ) → begin ≤ length text → whole ≡ take begin text ++ words_from places here codes → drop begin whole ≡ words_from places here codes

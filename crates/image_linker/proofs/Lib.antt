@@ -1,6 +1,7 @@
 pub mod Linked
 pub mod Loops
 pub mod Coded
+pub mod Changes
 pub mod Leading
 pub mod LedTexts
 pub mod Fronts

@@ -1,6 +1,6 @@
 -- What is linked: the index spaces of a module and the codes of its functions.
-use Rattle.std.specs.Prelude.{ℕ, ℤ, ◌+◌, ◌*◌, ◌^◌, ◌<◌, ◌&&◌, Bool, true, false, not, List, [], ◌∷◌, ◌++◌, map, take, length, replicate, suc, Option, None, Some, nat_lt, slice_get, slice_index, if◌then◌else◌}
-use Rattle.std.specs.List.{All}
+use Rattle.std.specs.Prelude.{ℕ, ℤ, ◌+◌, ◌*◌, ◌^◌, ◌<◌, ◌&&◌, Bool, true, false, not, List, [], ◌∷◌, ◌++◌, map, take, drop, length, replicate, suc, Option, None, Some, nat_lt, slice_get, slice_index, if◌then◌else◌}
+use Rattle.std.specs.List.{All, between}
 use Rattle.rv_isa.specs.Words.{word_of}
 use Rattle.rv_isa.specs.declared.compiled.Code.{Code}
 use Rattle.rv_isa.specs.declared.compiled.Relocation.{Relocation}

@@ -14,7 +14,7 @@
 //! Codes come without distances. A call of function 2 that is word 6 of function 1 gets that from index 26 to index 50, which
 //! is 96 bytes: its two words (AUIPC, JALR) are written again, in place. Rows of the table and exports get the functions' offsets.
 
-ghost use Rattle.std.specs.Prelude.{◌≡◌, ◌≤◌, ◌<◌, ◌+◌, ◌*◌, ◌++◌, ◌^◌, ℕ, List, length, map, take, drop, slice_index, slice_set, IfOk};
+ghost use Rattle.std.specs.Prelude.{◌≡◌, ◌≤◌, ◌<◌, ◌+◌, ◌-◌, ◌*◌, ◌++◌, ◌^◌, ℕ, List, length, map, drop, slice_index, slice_set, IfOk};
 ghost use Rattle.std.specs.List.{between};
 ghost use Rattle.rv_isa.specs.declared.compiled.TrapSite.{TrapSite};
 ghost use Rattle.code_list.specs.CodeLists.{AreEnds};
@@ -80,7 +80,7 @@ fn lead(
 )
     requires rises { begin ≤ end }
     requires within { end ≤ length text.old }
-    requires few { here < 2 ^ 62 }
+    requires few { here + (end - begin) < 2 ^ 62 }
     ensures { text.new ≡ changed begin end (with_distance (distances starts.now here call_to.now.place call_to.now.function) call_to.now.place) text.old }
 {
     let place = call_to.place;
@@ -105,7 +105,7 @@ fn lead_all(
 )
     requires rises { begin ≤ end }
     requires within { end ≤ length text.old }
-    requires few { here < 2 ^ 62 }
+    requires few { here + (end - begin) < 2 ^ 62 }
     ensures { text.new ≡ changed begin end (with_distances (distances starts.now here) calls.now) text.old }
 {
     for call_to in calls {
@@ -126,9 +126,8 @@ fn lead_between(
     requires text { end.words ≤ length text.old }
     requires rise { begin.calls ≤ end.calls }
     requires calls { end.calls ≤ length calls.now }
-    requires few { here < 2 ^ 62 }
-    ensures { text.new ≡ take begin.words text.old ++ (with_distances (distances starts.now here) (between begin.calls end.calls calls.now)
-        (between begin.words end.words text.old) ++ drop end.words text.old) }
+    requires few { here + (end.words - begin.words) < 2 ^ 62 }
+    ensures { text.new ≡ changed begin.words end.words (with_distances (distances starts.now here) (between begin.calls end.calls calls.now)) text.old }
 {
     let own = &calls[begin.calls..end.calls];
     lead_all(text, begin.words, end.words, own, starts, here);
@@ -188,6 +187,8 @@ fn text_of(
         begin,
         ends,
     } = codes.into_parts();
+    // From here on the text is known to be so short that no index overflows
+    let _words = text.len();
     lead_codes(&mut text, &calls, begin, &ends, starts, stubs.len());
     with_stubs(text, stubs, begin.words)
 }

@@ -1,4 +1,4 @@
-use Rattle.std.proofs.Common.{◌≡◌, ◌++◌, ap, ◌∙◌, arith, map, length, ℕ, List}
+use Rattle.std.proofs.Common.{◌≡◌, ◌++◌, ap, ◌∙◌, arith, map, length, ℕ}
 use Rattle.std.specs.Prelude.{slice_get, slice_index_or}
 use Rattle.rv_isa.specs.Words.{word_of}
 use Rattle.wasm_defs.specs.Context.{type_or_empty}
@@ -18,16 +18,14 @@ pub loop-import-preserved : goal.loop-import-preserved
 loop-import-preserved c =
     let x = c.import-item.result in
     let i = c.loop-import.import-index in
-    let old = c.loop-import.text.items in
+    let old = c.loop-import.text in
     let types = c.args.context.now.types in
     let number : c.loop-import.number ≡ i = c.loop-import.invariant.1 in
-    let stub : c.as_slice.result.now ≡ map word_of (import_stub (length (type_or_empty (slice_get types x.type_index)).params) i) =
-    c.as_slice.ensures ∙ c.in_ok-emit_import_stub.ensures.ok
-    ∙ ap (λ (l : List ℕ). l ++ map word_of (import_stub c.params_of.result c.loop-import.number)) c.truncate.ensures
-    ∙ ap (λ (n : ℕ). map word_of (import_stub n c.loop-import.number)) c.params_of.ensures
-    ∙ ap (λ (n : ℕ). map word_of (import_stub (length (type_or_empty (slice_get types x.type_index)).params) n)) number in (
-      stubs_taken types c.args.context.now.imports i x (map word_of exit_stub) old c.extend_from_slice.new.self.items (omega (arith, c.loop-import-test.true, ap (λ imports. length imports) c.imports-import-items.ensures))
-          (c.import-item.is ∙ ap (λ imports. slice_index_or imports i x) c.imports-import-items.ensures) c.loop-import.invariant.0
-          (c.in_ok-extend_from_slice.ensures.items ∙ ap (λ (l : List ℕ). old ++ l) stub),
+    let stub =
+    c.in_ok-emit_import_stub.ensures.ok
+    ∙ ap (λ (n : ℕ). old ++ map word_of (import_stub n c.loop-import.number)) c.params_of.ensures
+    ∙ ap (λ (n : ℕ). old ++ map word_of (import_stub (length (type_or_empty (slice_get types x.type_index)).params) n)) number in (
+      stubs_taken types c.args.context.now.imports i x (map word_of exit_stub) old _ (omega (arith, c.loop-import-test.true, ap (λ imports. length imports) c.imports-import-items.ensures))
+          (c.import-item.is ∙ ap (λ imports. slice_index_or imports i x) c.imports-import-items.ensures) c.loop-import.invariant.0 stub,
       omega (arith, number),
     )

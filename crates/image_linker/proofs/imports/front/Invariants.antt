@@ -6,4 +6,4 @@ use Rattle.image_linker.proofs.imports.front.Given as goal
 
 abbrev pub invariant-loop-import : goal.invariant-loop-import
 invariant-loop-import l =
-    (l.text.items ≡ map word_of exit_stub ++ stub_words l.context.types 0 (take l.import-index l.context.imports)) × (l.number ≡ l.import-index)
+    (l.text ≡ map word_of exit_stub ++ stub_words l.context.types 0 (take l.import-index l.context.imports)) × (l.number ≡ l.import-index)

@@ -24,7 +24,7 @@ returns-then-passes_limit c =
     let i = c.loop-index.index in
     let codes = c.args.codes.now in
     let within : i < length codes = omega (arith, c.loop-index-test.true, c.count-index-end.ensures) in
-    let at = words_at codes i c.get.result.words.now within c.get.ensures.words in
+    let at = words_at codes i c.get.result.words within c.get.ensures.words in
     let long = ltb-true max_text _ (sym c.passes_limit.ensures ∙ c.if-passes_limit.true) in (
       i,
       _,
@@ -42,7 +42,7 @@ loop-index-preserved c =
     let i = c.loop-index.index in
     let codes = c.args.codes.now in
     let within : i < length codes = omega (arith, c.loop-index-test.true, c.count-index-end.ensures) in
-    let at = words_at codes i c.get.result.words.now within c.get.ensures.words in
+    let at = words_at codes i c.get.result.words within c.get.ensures.words in
     let short = ltb-false max_text _ (sym c.passes_limit.ensures ∙ c.if-passes_limit.false) in (
       omega (arith, c.loop-index.invariant.0, at.next),
       kept_more c.args.context.now codes i c.loop-index.invariant.1

@@ -1,6 +1,5 @@
 use Rattle.std.proofs.Common.{◌∙◌, ◌<◌, ◌+◌, ℕ, length, drop, sym, subst, arith}
 use Rattle.code_list.specs.CodeLists.{AreEnds}
-use Rattle.code_list.proofs.Ends.{within}
 use Rattle.image_linker.proofs.LedTexts.{end_at, Opened, opened, led_length, led_more, led_next, led_all}
 use Rattle.image_linker.proofs.linking.lead_codes.Goals as goal
 use Rattle.image_linker.proofs.linking.lead_codes.Goals.{In-loop-end}
@@ -27,8 +26,8 @@ lead_between-requires-clause-calls c = (next (goal.at.lead_between-requires-clau
 pub lead_between-requires-clause-few : goal.lead_between-requires-clause-few
 lead_between-requires-clause-few c =
     let l = c.loop-end in
-    let w = within (length l.text) (length c.args.calls.now) l.invariant.ends.0 l.begin (drop l.end-index c.args.ends.now) l.invariant.ends.1 in
-    omega (arith, w.words, l.invariant.here, l.invariant.length, c.requires.few)
+    let o = next (goal.at.lead_between-requires-clause-few c).In-loop-end in
+    omega (arith, o.rises.words, o.within.words, l.invariant.here, l.invariant.length, c.requires.few)
 
 pub overflow_sub-here : goal.overflow_sub-here
 overflow_sub-here c = omega (arith, (next (goal.at.overflow_sub-here c).In-loop-end).rises.words)

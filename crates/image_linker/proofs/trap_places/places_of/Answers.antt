@@ -24,12 +24,12 @@ front_of-here-requires c = omega (arith, c.requires.words, ap (λ imports. lengt
 -- the words with one more code are no more than all
 pub overflow_add-here : goal.overflow_add-here
 overflow_add-here c =
-    let at = words_at c.args.codes.now c.loop-index.index c.get-code.result.words.now (omega (arith, c.loop-index-test.true, c.count-index-end.ensures)) c.get-code.ensures.words in
+    let at = words_at c.args.codes.now c.loop-index.index c.get-code.result.words (omega (arith, c.loop-index-test.true, c.count-index-end.ensures)) c.get-code.ensures.words in
     omega (arith, c.requires.words, at.next, at.within, c.loop-index.invariant.0)
 
 pub overflow_cast-here : goal.overflow_cast-here
 overflow_cast-here c =
-    let at = words_at c.args.codes.now c.loop-index.index c.get-code.result.words.now (omega (arith, c.loop-index-test.true, c.count-index-end.ensures)) c.get-code.ensures.words in
+    let at = words_at c.args.codes.now c.loop-index.index c.get-code.result.words (omega (arith, c.loop-index-test.true, c.count-index-end.ensures)) c.get-code.ensures.words in
     omega (arith, c.requires.words, at.next, at.within)
 
 pub put_sites-requires : goal.put_sites-requires
@@ -56,7 +56,7 @@ loop-index-preserved c =
     let function = c.loop-index.function in
     let less : i < length codes = omega (arith, c.loop-index-test.true, c.count-index-end.ensures) in
     let is = is_at codes i less in
-    let at = words_at codes i c.get-code.result.words.now less c.get-code.ensures.words in
+    let at = words_at codes i c.get-code.result.words less c.get-code.ensures.words in
     let front = import_traps (length exit_stub) 0 imports in
     let all = all_right front (code_traps (front_of (length imports)) (length imports) codes) c.requires.places in
     let short = code_short (front_of (length imports)) (length imports) codes i here (length imports + i) code c.loop-index.invariant.0 refl less is all in
