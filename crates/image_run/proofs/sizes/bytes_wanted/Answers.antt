@@ -16,7 +16,7 @@ pub overflow_mul-memory : goal.overflow_mul-memory
 overflow_mul-memory c = omega (arith, c.image.invariant.cap, pages_are_few c.image.inside.version)
 
 pub overflow_mul-text : goal.overflow_mul-text
-overflow_mul-text c = omega (arith, ap length c.as_slice-4.ensures, c.image.invariant.text.most)
+overflow_mul-text c = omega (arith, c.len.ensures, c.image.invariant.text.most)
 
 pub returns : goal.returns
 unfolding bytes_wanted
@@ -28,5 +28,5 @@ returns c =
     let globals = c.as_slice.ensures ∙ ap (λ (x : Image). x.globals) is in
     let table = c.as_slice-2.ensures ∙ ap (λ (x : Image). x.table) is in
     let passive = c.as_slice-3.ensures ∙ ap (λ (x : Image). x.passive) is in
-    let text = c.as_slice-4.ensures ∙ ap (λ (x : Image). x.text) is in
-    omega (arith, regions, ap length globals, ap length table, ap length passive, ap length text, ap (λ (x : Image). x.cap) is)
+    let text = ap (λ (x : Image). length x.text) is in
+    omega (arith, regions, ap length globals, ap length table, ap length passive, c.len.ensures, text, ap (λ (x : Image). x.cap) is)
