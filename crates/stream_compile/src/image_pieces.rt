@@ -1,4 +1,5 @@
-//! Writes images in pieces, without a second copy of their long lists. All memory is taken before the first byte is written.
+//! Writes images without a second copy of their long lists: the text and the passive bytes are written as the image has them, and the trap
+//! sites are encoded a piece at a time. All memory is taken before the first byte is written.
 
 ghost use Rattle.std.specs.Prelude.{◌≡◌, ◌≤◌, ◌<◌, ◌^◌, ◌-◌, ◌++◌, true, nat_lt, length, IfOk, OnErr};
 ghost use Rattle.std.specs.List.{flat_map};
