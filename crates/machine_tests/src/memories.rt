@@ -35,7 +35,7 @@ fn machine_of(alloc: Global, stored: usize) -> Result<Machine, AllocError> {
         memory: LinearMemory::reserved(bytes, SIZE),
         passive: Vec::new(alloc),
     };
-    Machine::new(alloc, &WORDS, regions)
+    Machine::new(alloc, Vec::from_slice(alloc, &WORDS)?, regions)
 }
 
 /// An address in the memory or less than eight bytes outside: mostly near the edge of a page.

@@ -38,7 +38,7 @@ fn machine_of(alloc: Global, text: &[u32]) -> Result<Machine, AllocError>
         memory: LinearMemory::reserved(memory, MEMORY_SIZE),
         passive: Vec::new(alloc),
     };
-    Machine::new(alloc, text, regions)
+    Machine::new(alloc, Vec::from_slice(alloc, text)?, regions)
 }
 
 /// A doubleword: small, the address of a word, or any.

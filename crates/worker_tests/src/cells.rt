@@ -9,12 +9,12 @@ use std::test::Fail;
 use std::thread;
 
 fn code(alloc: Global, word: u32) -> Result<Arc<Code, Global>, AllocError> {
-    let mut words = Vec::new(alloc);
+    let mut words = Words::new(alloc);
     words.push(word)?;
     Ok(Arc::new(
         alloc,
         Code {
-            words: Words::from_vec(words),
+            words,
             relocations: Relocations::from_vec(Vec::new(alloc)),
             traps: TrapSites::from_vec(Vec::new(alloc)),
             need: 1,
