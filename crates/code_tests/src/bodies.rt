@@ -103,7 +103,7 @@ fn signature(alloc: Global, has_two: bool) -> Result<Item, AllocError>
 /// Whether so many words were counted as a code has, or both are refused alike.
 fn are_alike(counted: Result<u64, BodyStop>, code: &Result<Code, BodyStop>) -> bool {
     match (counted, code) {
-        (Ok(words), Ok(code)) => words == code.words.as_slice().len() as u64,
+        (Ok(words), Ok(code)) => words == code.words.len() as u64,
         (Err(stop), Err(other)) => stop == *other,
         _ => false,
     }
@@ -140,7 +140,7 @@ fn number_of(words: &[u32]) -> u32 {
 
 /// The word at an index, or 0 past the last one.
 fn word_at(code: &Code, place: usize) -> u32 {
-    code.words.as_slice().get(place).copied().unwrap_or(0)
+    code.words.get(place).unwrap_or(0)
 }
 
 /// The calls: where each is, its two words, and which function it calls.
@@ -171,12 +171,12 @@ fn traps_of(alloc: Global, code: &Code) -> Result<String, Fail> {
 
 /// What is asked of a code.
 fn told(alloc: Global, asked: &str, code: &Code) -> Result<String, Fail> {
-    let words = code.words.as_slice();
-    let (len, need, number) = (words.len(), code.need, number_of(words));
+    let words = code.words.to_vec(alloc)?;
+    let (len, need, number) = (words.len(), code.need, number_of(&words));
     match asked {
         "size" => Ok(format!(in alloc; "{len} words, {need} slots")?),
         "number" => Ok(format!(in alloc; "{len} words, {need} slots, number {number}")?),
-        "words" => Ok(text_of(alloc, words)?),
+        "words" => Ok(text_of(alloc, &words)?),
         "calls" => calls_of(alloc, code),
         _ => traps_of(alloc, code),
     }

@@ -221,8 +221,8 @@ fn name_of(row: &str) -> &str {
 }
 
 /// Fails where a row has other words than it is to have.
-fn expect_words(alloc: Global, row: &str, words: &WordBuffer, want: &str) -> Result<(), Fail> {
-    let told = text_of(alloc, words.as_slice())?;
+fn expect_words(alloc: Global, row: &str, words: WordBuffer, want: &str) -> Result<(), Fail> {
+    let told = text_of(alloc, &words.finish().to_vec(alloc)?)?;
     if told.trim_end() == want {
         return Ok(());
     }
@@ -234,7 +234,7 @@ fn operations_have_their_words(rt: HostRuntime) -> Result<(), Fail> {
     for line in OPERATIONS.lines() {
         let (row, want) = parts_of(line);
         let words = operation_of(rt.alloc(), row)?;
-        expect_words(rt.alloc(), row, &words, want)?;
+        expect_words(rt.alloc(), row, words, want)?;
     }
     Ok(())
 }
@@ -254,7 +254,7 @@ fn accesses_have_their_words(rt: HostRuntime) -> Result<(), Fail> {
     for line in ACCESSES.lines() {
         let (row, want) = parts_of(line);
         let words = access_of(rt.alloc(), row)?;
-        expect_words(rt.alloc(), row, &words, want)?;
+        expect_words(rt.alloc(), row, words, want)?;
     }
     Ok(())
 }
@@ -264,7 +264,7 @@ fn variables_have_their_words(rt: HostRuntime) -> Result<(), Fail> {
     for line in VARIABLES.lines() {
         let (row, want) = parts_of(line);
         let words = variable(rt.alloc(), name_of(row))?;
-        expect_words(rt.alloc(), row, &words, want)?;
+        expect_words(rt.alloc(), row, words, want)?;
     }
     Ok(())
 }
@@ -274,7 +274,7 @@ fn calls_have_their_words(rt: HostRuntime) -> Result<(), Fail> {
     for line in CALLS.lines() {
         let (row, want) = parts_of(line);
         let words = calling(rt.alloc(), name_of(row))?;
-        expect_words(rt.alloc(), row, &words, want)?;
+        expect_words(rt.alloc(), row, words, want)?;
     }
     Ok(())
 }

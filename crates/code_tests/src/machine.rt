@@ -175,7 +175,7 @@ fn machine(alloc: Global, text: &[u32]) -> Result<Machine, AllocError>
         memory: LinearMemory::reserved(memory, size),
         passive,
     };
-    Machine::new(alloc, text, regions)
+    Machine::new(alloc, Vec::from_slice(alloc, text)?, regions)
 }
 
 /// How one step of a word ends, and what t0 holds then.

@@ -406,12 +406,33 @@ fn lists_codes(rt: HostRuntime) -> Result<(), Fail> {
     assert_eq!(rt; codes.count(), 3);
     for index in 0..codes.count() {
         let code = codes.get(index);
-        assert_eq!(rt; code.words, [7, 5, 9].as_slice());
+        assert_eq!(rt; code.words, 3);
         assert_eq!(rt; code.traps.len(), 1);
     }
     let parts = codes.into_parts();
-    assert_eq!(rt; (parts.text.len(), parts.calls.len()), (11, 3));
+    let text = parts.text.to_vec(rt.alloc())?;
+    assert_eq!(rt;
+        text.as_slice(),
+        [0, 0, 7, 5, 9, 7, 5, 9, 7, 5, 9].as_slice()
+    );
+    assert_eq!(rt; parts.calls.len(), 3);
     assert_eq!(rt; (parts.begin.words, parts.ends.len()), (2, 3));
+    Ok(())
+}
+
+#[test]
+fn words_are_their_bytes(rt: HostRuntime) -> Result<(), Fail> {
+    let mut words = Words::new(rt.alloc());
+    words.push(0x0123_4567)?;
+    words.append(&buffered(rt.alloc())?)?;
+    words.set(1, 0x89AB_CDEF);
+    // an index past the last one changes nothing
+    words.set(4, 1);
+    assert_eq!(rt; (words.get(1), words.get(4)), (Some(0x89AB_CDEF), None));
+    let want = [
+        0x67, 0x45, 0x23, 0x01, 0xEF, 0xCD, 0xAB, 0x89, 5, 0, 0, 0, 9, 0, 0, 0,
+    ];
+    assert_eq!(rt; words.as_bytes(), want.as_slice());
     Ok(())
 }
 
@@ -422,11 +443,11 @@ fn buffers(rt: HostRuntime) -> Result<(), Fail> {
     let told = format!(in rt.alloc(); "{code:?}")?;
     assert_eq!(rt;
         told.as_str(),
-        "Code { words: Words { words: [7, 5, 9] }, relocations: Relocations { relocations: [Relocation { place: 1, function: 4 }] }, \
-        traps: TrapSites { sites: [TrapSite { place: 2, offset: 31 }] }, need: 2 }"
+        "Code { words: Words { words: [[7, 0, 0, 0], [5, 0, 0, 0], [9, 0, 0, 0]] }, \
+        relocations: Relocations { relocations: [Relocation { place: 1, function: 4 }] }, traps: TrapSites { sites: [TrapSite { place: 2, offset: 31 }] }, need: 2 }"
     );
     let lens = (
-        code.words.into_vec().len(),
+        code.words.len(),
         code.relocations.into_vec().len(),
         code.traps.into_vec().len(),
     );
