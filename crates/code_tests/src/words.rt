@@ -444,7 +444,8 @@ fn buffers(rt: HostRuntime) -> Result<(), Fail> {
     assert_eq!(rt;
         told.as_str(),
         "Code { words: Words { words: [[7, 0, 0, 0], [5, 0, 0, 0], [9, 0, 0, 0]] }, \
-        relocations: Relocations { relocations: [Relocation { place: 1, function: 4 }] }, traps: TrapSites { sites: [TrapSite { place: 2, offset: 31 }] }, need: 2 }"
+        relocations: Relocations { relocations: [Relocation { place: 1, function: 4 }] }, \
+        traps: TrapSites { sites: [TrapSite { place: 2, offset: 31 }] }, need: 2 }"
     );
     let lens = (
         code.words.len(),

@@ -80,7 +80,7 @@ fn lead(
 )
     requires rises { begin ≤ end }
     requires within { end ≤ length text.old }
-    requires few { here + (end - begin) < 2 ^ 62 }
+    requires few { here + (end - begin) < 2 ^ 63 }
     ensures { text.new ≡ changed begin end (with_distance (distances starts.now here call_to.now.place call_to.now.function) call_to.now.place) text.old }
 {
     let place = call_to.place;
@@ -105,7 +105,7 @@ fn lead_all(
 )
     requires rises { begin ≤ end }
     requires within { end ≤ length text.old }
-    requires few { here + (end - begin) < 2 ^ 62 }
+    requires few { here + (end - begin) < 2 ^ 63 }
     ensures { text.new ≡ changed begin end (with_distances (distances starts.now here) calls.now) text.old }
 {
     for call_to in calls {
@@ -126,7 +126,7 @@ fn lead_between(
     requires text { end.words ≤ length text.old }
     requires rise { begin.calls ≤ end.calls }
     requires calls { end.calls ≤ length calls.now }
-    requires few { here + (end.words - begin.words) < 2 ^ 62 }
+    requires few { here + (end.words - begin.words) < 2 ^ 63 }
     ensures { text.new ≡ changed begin.words end.words (with_distances (distances starts.now here) (between begin.calls end.calls calls.now)) text.old }
 {
     let own = &calls[begin.calls..end.calls];
@@ -143,7 +143,7 @@ fn lead_codes(
     front: usize,
 )
     requires ends { (sites : ℕ) × AreEnds (length text.old) (length calls.now) sites first ends.now }
-    requires few { front + length text.old < 2 ^ 62 }
+    requires few { front + length text.old < 2 ^ 63 }
     ensures words { (sites : List TrapSite) → text.new ≡ led_text starts.now calls.now sites text.old front first ends.now }
     ensures length { length text.new ≡ length text.old }
 {
@@ -187,8 +187,9 @@ fn text_of(
         begin,
         ends,
     } = codes.into_parts();
-    // From here on the text is known to be so short that no index overflows
-    let _words = text.len();
+    // both are so short that no index in the whole text overflows
+    stubs.keeps_bounds();
+    text.keeps_bounds();
     lead_codes(&mut text, &calls, begin, &ends, starts, stubs.len());
     with_stubs(text, stubs, begin.words)
 }

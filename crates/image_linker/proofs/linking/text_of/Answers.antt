@@ -28,7 +28,7 @@ led_is c =
     let is = c.into_parts-text.ensures in
     let starts = c.args.starts.now in
     let here : c.len.result ≡ front_of (length c.args.context.now.imports) =
-    omega (arith, c.len.ensures.count, ap (λ (l : List ℕ). length l) c.in_ok-stubs.ensures, front_length c.args.context.now) in
+    omega (arith, c.len.ensures, ap (λ (l : List ℕ). length l) c.in_ok-stubs.ensures, front_length c.args.context.now) in
     c.lead_codes.ensures.words is.0
     ∙ ap (λ (l : List Relocation). led_text starts l is.0 parts.text c.len.result parts.begin c.deref-2.result.now) c.deref.ensures.value
     ∙ ap (λ (l : List CodeEnd). led_text starts parts.calls.items is.0 parts.text c.len.result parts.begin l) c.deref-2.ensures.value
